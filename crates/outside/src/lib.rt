@@ -1,0 +1,25 @@
+//! What the program reaches outside: where files are read, and where bytes are written.
+//!
+//! Each object counts its faults. A call answers a fault only where that count rose in the call, or stands at its last
+//! value. The forms in memory tell their contents, and the real ones don't.
+#![tactic(auto)]
+
+mod failures;
+mod file_store;
+mod front;
+mod mem_sink;
+mod mem_store;
+mod plan;
+mod sink;
+mod std_sink;
+mod store;
+
+pub use file_store::FileStore;
+pub use mem_sink::MemSink;
+pub use mem_store::{MemStore, NamedFile};
+pub use sink::{Sink, SinkFault};
+pub use std_sink::StdSink;
+pub use store::{ReadRefused, Store};
+
+#[cfg(test)]
+mod tests;
