@@ -1,0 +1,3 @@
+pub mod SpotLemmas
+pub mod PlaceLemmas
+pub mod PaintLemmas

@@ -1,0 +1,4 @@
+pub mod Places
+pub mod Clips
+pub mod Painting
+pub mod Damage
