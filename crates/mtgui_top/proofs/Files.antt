@@ -1,0 +1,43 @@
+-- The file behind its first bytes.
+use Rattle.std.proofs.Common.{◌≡◌, ℕ, List, take, Option, Result, Ok, Err, sym, subst, ◌∙◌}
+use Rattle.outside.specs.Files.{File, Gave}
+use Rattle.outside.specs.Faults.{Broken}
+use Rattle.mtgui_top.specs.declared.fault.Fault.{Fault}
+use Rattle.mtgui_top.specs.declared.play.Stop.{Stop}
+use Rattle.mtgui_top.specs.declared.play.Stop.TheVariants as stop
+use Rattle.mtgui_top.specs.declared.play.Told.{Told}
+use Rattle.mtgui_top.specs.declared.play.Told.TheVariants as told
+use Rattle.mtgui_top.specs.Scripts.{Script, IsScript}
+use Rattle.mtgui_top.specs.Playing.{text_for}
+use Rattle.mtgui_top.specs.Outcome.{Shows, ShowsFile, Plays}
+use Rattle.mtgui_top.proofs.Scripts.{script_takes, script_again, script_of-take}
+
+-- a file and its front of one byte more than a script may have say the same
+script-take : (file : List ℕ) (script : Script) → IsScript (take 100663297 file) script → IsScript file script
+script-take file script h = script_takes file script (sym (script_of-take file) ∙ script_again (take 100663297 file) script h)
+
+take-script : (file : List ℕ) (script : Script) → IsScript file script → IsScript (take 100663297 file) script
+take-script file script h = script_takes (take 100663297 file) script (script_of-take file ∙ script_again file script h)
+
+shows-take : (r : Result Told Stop) (file : List ℕ) (before now : ℕ) (old new : Option (List ℕ)) → Shows r (take 100663297 file) before now old new → Shows r file before now old new
+shows-take (Ok told.Script) file before now old new h = (h.0, script-take file h.0 h.1, h.2)
+shows-take (Ok told.Fault) file before now old new h = (h.0, (λ script is. h.1 script (take-script file script is)), sym (script_of-take file) ∙ h.2, h.3)
+shows-take (Err stop.Store) file before now old new h = h
+shows-take (Err stop.Sink) file before now old new h = subst (λ (said : Result Script Fault). Broken before now old new (text_for said)) (script_of-take file) h
+shows-take (Err stop.Memory) file before now old new h = h
+
+of_file : (r : Result Told Stop) (files : Option (List File)) (name bytes : List ℕ) (before now : ℕ) (old new : Option (List ℕ)) → Gave files name 100663297 bytes → Shows r bytes before now old new → ShowsFile r files name before now old new
+of_file r files name bytes before now old new gave shows =
+    (gave.0, gave.1, shows-take r gave.0 before now old new (subst (λ (text : List ℕ). Shows r text before now old new) gave.2 shows))
+
+plays : (r : Result Told Stop) (files : Option (List File)) (name bytes : List ℕ) (r0 r1 : ℕ) (failed : Option (List ℕ)) (before now : ℕ) (old new : Option (List ℕ))
+    → Gave files name 100663297 bytes → Shows r bytes before now old new → Plays r files name r0 r1 failed before now old new
+plays (Ok t) files name bytes r0 r1 failed before now old new gave shows = of_file (Ok t) files name bytes before now old new gave shows
+plays (Err stop.Store) files name bytes r0 r1 failed before now old new gave shows = absurd shows
+plays (Err stop.Sink) files name bytes r0 r1 failed before now old new gave shows = of_file (Err stop.Sink) files name bytes before now old new gave shows
+plays (Err stop.Memory) files name bytes r0 r1 failed before now old new gave shows = shows
+
+pub plays_text : (r : Result Told Stop) (files : Option (List File)) (name bytes text : List ℕ) (r0 r1 : ℕ) (failed : Option (List ℕ)) (before now : ℕ) (old new : Option (List ℕ))
+    → text ≡ bytes → Gave files name 100663297 bytes → Shows r text before now old new → Plays r files name r0 r1 failed before now old new
+plays_text r files name bytes text r0 r1 failed before now old new e gave shows =
+    plays r files name bytes r0 r1 failed before now old new gave (subst (λ (t : List ℕ). Shows r t before now old new) e shows)

@@ -1,0 +1,8 @@
+use Rattle.mtgui_top.proofs.Scripts.{is_found, only_script}
+use Rattle.mtgui_top.proofs.reader.read.Goals as goal
+
+pub returns-clause-found : goal.returns-clause-found
+returns-clause-found c = is_found c.args.text.now c.read_lines.result c.read_lines.ensures
+
+pub returns-clause-only : goal.returns-clause-only
+returns-clause-only c = λ s is. only_script c.args.text.now c.read_lines.result s c.read_lines.ensures is

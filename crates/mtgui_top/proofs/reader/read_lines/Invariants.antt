@@ -1,0 +1,13 @@
+use Rattle.std.proofs.Common.{◌≡◌, ◌+◌, ◌≤◌, length}
+use Rattle.mtgui_top.specs.Parts.{lines_of}
+use Rattle.mtgui_top.specs.Reading.{draft_of, read_from, script_of}
+use Rattle.mtgui_top.proofs.reader.read_lines.Given as goal
+
+abbrev pub invariant-loop-rest : goal.invariant-loop-rest
+invariant-loop-rest l = record {
+  counted : l.number + length l.rest ≤ length l.text;
+  read : read_from (l.number + 1) (draft_of l.draft) (lines_of l.rest) ≡ script_of l.text;
+}
+
+abbrev pub decreases-loop-rest : goal.decreases-loop-rest
+decreases-loop-rest l = length l.rest

@@ -1,0 +1,16 @@
+pub mod Digits
+pub mod Parts
+pub mod Fields
+pub mod Spelling
+pub mod Scripts
+pub mod Reading
+pub mod Pictures
+pub mod Texts
+pub mod Setups
+pub mod Looks
+pub mod States
+pub mod Areas
+pub mod Machines
+pub mod Playing
+pub mod Outcome
+pub mod Examples

@@ -1,0 +1,71 @@
+//! Why a file could not be read.
+
+ghost use Rattle.std.specs.Prelude.{◌≡◌};
+ghost use Rattle.mtgui_top.specs.declared.fault.LineError.TheVariants as line;
+ghost use Rattle.mtgui_top.specs.declared.fault.ReadError.TheVariants as read;
+
+use std::alloc::{AllocError, AllocFailed};
+use thiserror::Error;
+
+/// What is wrong with a line: the first reason that holds, in this order.
+#[derive(Clone, Copy, Debug, PartialEq, Eq)]
+pub enum Reason {
+    /// The file is too long; told of line 0.
+    TooLarge,
+    /// The line has a byte outside 32 to 126.
+    Ascii,
+    /// It is of a form that this version doesn't build.
+    Later,
+    /// It isn't the header's line of its place.
+    Header,
+    /// It doesn't belong in a class's block.
+    Block,
+    /// It opens a class after a call line.
+    Late,
+    /// It opens a class, and is misspelled, or has the wrong number.
+    Asset,
+    /// It is no call line.
+    Call,
+    /// It is one call too many.
+    Many,
+    /// The file ends before it, in the header or in a block.
+    End,
+}
+
+/// The first line that is wrong, counted from 1 with comments.
+#[derive(Clone, Copy, Debug, PartialEq, Eq)]
+pub struct Fault {
+    pub line: u32,
+    pub reason: Reason,
+}
+
+#[derive(Debug, Drop, Error)]
+pub enum ReadError {
+    #[error("out of memory")]
+    Memory,
+    #[error("the file is no script")]
+    Fault(Fault),
+}
+
+impl From<AllocError> for ReadError {
+    ghost from_gives = { λ _ e. e ≡ read.Memory };
+
+    fn from(_: AllocError) -> ReadError {
+        ReadError::Memory
+    }
+}
+
+/// Why one line could not be read.
+#[derive(Debug, Drop)]
+pub enum LineError {
+    Memory,
+    Wrong(Reason),
+}
+
+impl<T: Drop> From<AllocFailed<T>> for LineError {
+    ghost from_gives = { λ _ e. e ≡ line.Memory };
+
+    fn from(_: AllocFailed<T>) -> LineError {
+        LineError::Memory
+    }
+}

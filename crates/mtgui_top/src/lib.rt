@@ -1,0 +1,31 @@
+//! The commands of mtgui: words in, bytes out, and an exit status.
+#![tactic(auto)]
+
+mod colours;
+mod draft;
+mod engine;
+mod examples;
+mod fault;
+mod fields;
+mod hex;
+mod line;
+mod lines;
+mod listing;
+mod painting;
+mod picture;
+mod play;
+mod reader;
+mod reasons;
+mod reply;
+mod room;
+mod texts;
+mod words;
+
+pub use play::plain_words;
+
+#[cfg(test)]
+mod play_tests;
+#[cfg(test)]
+mod reader_tests;
+#[cfg(test)]
+mod texts_tests;

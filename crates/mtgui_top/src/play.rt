@@ -1,0 +1,213 @@
+//! `play FILE`: a file is read, and what its script's calls are answered is written.
+
+ghost use Rattle.std.specs.Prelude.{◌≡◌, ◌↔◌, ◌⊎◌, ◌<◌, ◌≤◌, ◌++◌, if◌then◌else◌, List, [], ℕ, Ok, Err, length, codes, MatchOption};
+ghost use Rattle.outside.specs.Faults.{Wrote, Refused, Whole};
+ghost use Rattle.mtgui_top.specs.Playing.{replies, is_refused, summary_of, play_text, reason_text, fault_line, setup_for, is_file_name, IsPlay};
+ghost use Rattle.mtgui_top.specs.Outcome.{Shows, ShowsFile, Plays, PlaysScript, stop_of, IsStatus, IsComplete};
+ghost use Rattle.mtgui_top.specs.declared.play.Stop.TheVariants.{Sink, Memory};
+ghost use Rattle.mtgui_top.specs.declared.play.Stop.{Stop};
+ghost use Rattle.mtgui_top.specs.declared.play.Told.{Told};
+
+use crate::engine::Engine;
+use crate::fault::{Fault, ReadError, Reason};
+use crate::line::Line;
+use crate::listing::Script;
+use crate::reader::{MOST_BYTES, read};
+use crate::reply::Reply;
+use crate::room::LineRoom;
+use crate::texts::{write_fault, write_reply, write_summary};
+use outside::{ReadRefused, Sink, SinkFault, Store};
+use std::alloc::Global;
+
+/// How many refusals a reply counts for.
+fn refusals(reply: &Reply) -> usize
+    ensures value { result ≡ (if is_refused reply.now then 1 else 0) }
+    ensures most { result ≤ 1 }
+{
+    match reply {
+        Reply::Done | Reply::Handle(_) | Reply::Jobs(_) => 0,
+        Reply::Refused(_) => 1,
+    }
+}
+
+/// Makes the calls of lines and writes what they are answered, and the summary.
+fn perform<K: Sink>(
+    out: &mut K,
+    room: &mut LineRoom,
+    engine: &mut Engine,
+    lines: &[Line],
+) -> Result<(), SinkFault>
+    requires { length lines.now ≤ 400000 }
+    ensures { Wrote result (K.faults out.old) (K.faults out.new) (K.written out.old) (K.written out.new) (replies engine.old.setup engine.old.state lines.now ++ summary_of engine.old.setup engine.old.state lines.now) }
+{
+    let mut refused = 0;
+    for line in lines {
+        let reply = engine.apply(&line.call);
+        refused += refusals(&reply);
+        write_reply(out, room, &line.call, &reply, engine.shown())?;
+    }
+    write_summary(out, room, lines.len(), refused, 0, engine.window_count())
+}
+
+/// Why a file wasn't played to its end.
+enum Stop {
+    Store,
+    Sink,
+    Memory,
+}
+
+impl From<ReadRefused> for Stop {
+    ghost from_gives = { λ refused stop. stop ≡ stop_of refused };
+
+    fn from(refused: ReadRefused) -> Stop {
+        match refused {
+            ReadRefused::Failed => Stop::Store,
+            ReadRefused::Memory => Stop::Memory,
+        }
+    }
+}
+
+impl From<SinkFault> for Stop {
+    ghost from_gives = { λ _ stop. stop ≡ Sink };
+
+    fn from(_: SinkFault) -> Stop {
+        Stop::Sink
+    }
+}
+
+impl From<gfx_base::Memory> for Stop {
+    ghost from_gives = { λ _ stop. stop ≡ Memory };
+
+    fn from(_: gfx_base::Memory) -> Stop {
+        Stop::Memory
+    }
+}
+
+/// What was told of a file.
+enum Told {
+    Script,
+    Fault,
+}
+
+fn play_script<K: Sink>(
+    alloc: Global,
+    script: Script,
+    room: &mut LineRoom,
+    out: &mut K,
+) -> Result<(), Stop>
+    ensures { PlaysScript result (K.faults out.old) (K.faults out.new) (K.written out.old) (K.written out.new) (play_text script) }
+{
+    let (width, height, classes, lines) = script.into_parts();
+    let mut engine = Engine::open(alloc, width, height, classes)?;
+    perform(out, room, &mut engine, &lines)?;
+    Ok(())
+}
+
+fn reason_name(reason: Reason) -> &'static [u8]
+    ensures value { result.now ≡ reason_text reason }
+    ensures short { length result.now ≤ 20 }
+{
+    match reason {
+        Reason::TooLarge => b"too-large",
+        Reason::Ascii => b"ascii",
+        Reason::Later => b"later",
+        Reason::Header => b"header",
+        Reason::Block => b"block",
+        Reason::Late => b"late",
+        Reason::Asset => b"asset",
+        Reason::Call => b"call",
+        Reason::Many => b"many",
+        Reason::End => b"end",
+    }
+}
+
+/// Writes what a file's bytes say. All memory is taken before the first byte is written.
+fn show<K: Sink>(alloc: Global, text: &[u8], out: &mut K) -> Result<Told, Stop>
+    ensures { Shows result text.now (K.faults out.old) (K.faults out.new) (K.written out.old) (K.written out.new) }
+{
+    let mut room = LineRoom::new(alloc)?;
+    match read(alloc, text) {
+        Ok(script) => {
+            play_script(alloc, script, &mut room, out)?;
+            Ok(Told::Script)
+        }
+        Err(ReadError::Memory) => Err(Stop::Memory),
+        Err(ReadError::Fault(fault)) => {
+            write_fault(out, &mut room, fault.line, reason_name(fault.reason))?;
+            Ok(Told::Fault)
+        }
+    }
+}
+
+fn play<S: Store, K: Sink>(
+    alloc: Global,
+    name: &str,
+    store: &mut S,
+    out: &mut K,
+) -> Result<Told, Stop>
+    ensures { Plays result (S.files store.old) name.now (S.faults store.old) (S.faults store.new) (S.failed store.new) (K.faults out.old) (K.faults out.new) (K.written out.old) (K.written out.new) }
+{
+    let text = store.read(alloc, name, MOST_BYTES + 1)?;
+    show(alloc, &text, out)
+}
+
+fn is_file_name(name: &str) -> bool
+    ensures { result ≡ is_file_name name.now }
+{
+    let bytes = name.as_bytes();
+    bytes.len() == 1 || bytes.first() != Some(&b'-')
+}
+
+/// The file that the words name.
+fn file_name(words: &[String]) -> Option<&str>
+    ensures { MatchOption result ((name : List ℕ) → IsPlay words.now name → ⊥) (λ name. IsPlay words.now name.now) }
+{
+    let [verb, name] = words else {
+        return None;
+    };
+    if verb.as_str() == "play" && is_file_name(name.as_str()) {
+        Some(name.as_str())
+    } else {
+        None
+    }
+}
+
+/// Does `play FILE` and answers the exit status: 0 where the file was read to its end, is a script, and its play text was
+/// written; 2 where the words are others; 3 where the file is no script, and its fault line was written; 4 where the store
+/// failed at the file; 5 where the sink failed; 9 where memory ran out.
+pub fn plain_words<S: Store, K: Sink>(
+    alloc: Global,
+    words: &[String],
+    store: &mut S,
+    out: &mut K,
+) -> u8
+    ensures words { (result ≡ 2) ↔ ((name : List ℕ) → IsPlay words.now name → ⊥) }
+    // The file is a script, and its play text was written.
+    ensures played { result ≡ 0 → (name : List ℕ) × IsPlay words.now name
+        × ShowsFile (Ok Told.Script) (S.files store.old) name (K.faults out.old) (K.faults out.new) (K.written out.old) (K.written out.new) }
+    // The file is no script, and the line of its fault was written.
+    ensures no_script { result ≡ 3 → (name : List ℕ) × IsPlay words.now name
+        × ShowsFile (Ok Told.Fault) (S.files store.old) name (K.faults out.old) (K.faults out.new) (K.written out.old) (K.written out.new) }
+    // The store failed at that name, and nothing was written.
+    ensures store { result ≡ 4 → (name : List ℕ) × IsPlay words.now name
+        × Refused (S.faults store.old) (S.faults store.new) (S.failed store.new) name × Whole (K.faults out.old) (K.faults out.new) (K.written out.old) (K.written out.new) [] }
+    // The sink failed, and a front of the file's text was written.
+    ensures sink { result ≡ 5 → (name : List ℕ) × IsPlay words.now name
+        × ShowsFile (Err Stop.Sink) (S.files store.old) name (K.faults out.old) (K.faults out.new) (K.written out.old) (K.written out.new) }
+    // Where memory ran out, and at other words, nothing was written.
+    ensures nothing { (result ≡ 9) ⊎ (result ≡ 2) → Whole (K.faults out.old) (K.faults out.new) (K.written out.old) (K.written out.new) [] }
+    ensures status { IsStatus result }
+    // A told file is answered by what it says, unless a count rose or memory ran out.
+    ensures complete { IsComplete result words.now (S.files store.old) (S.faults store.old) (S.faults store.new) (K.faults out.old) (K.faults out.new) }
+{
+    let Some(name) = file_name(words) else {
+        return 2;
+    };
+    match play(alloc, name, store, out) {
+        Ok(Told::Script) => 0,
+        Ok(Told::Fault) => 3,
+        Err(Stop::Store) => 4,
+        Err(Stop::Sink) => 5,
+        Err(Stop::Memory) => 9,
+    }
+}
