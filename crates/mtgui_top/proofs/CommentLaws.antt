@@ -19,7 +19,7 @@ pub ok_is : {E A : Type 0} (x y : A) → done {E = E} x ≡ done y → x ≡ y
 ok_is x y e = cc
 
 -- a test, and how it went
-known : (b : Bool) → (b ≡ true) ⊎ (b ≡ false)
+pub known : (b : Bool) → (b ≡ true) ⊎ (b ≡ false)
 known true = inl refl
 known false = inr refl
 
@@ -114,11 +114,11 @@ pub taken_first : (r : Result Draft Reason) (next : Draft → Result Draft Reaso
 taken_first (Ok d) next whole e = (d, refl, e)
 taken_first (Err reason) next whole e = absurd cc
 
-comment_line : (d : Draft) (line : List ℕ) → IsPrintable line → is_comment line ≡ true → after_line d line ≡ Ok d
+pub comment_line : (d : Draft) (line : List ℕ) → IsPrintable line → is_comment line ≡ true → after_line d line ≡ Ok d
 unfolding after_line
 comment_line d line p is = rw (p, is) refl
 
-other_line : (d next : Draft) (line : List ℕ) → IsPrintable line → is_comment line ≡ false → after_words d.stage d line ≡ Ok next → after_line d line ≡ Ok next
+pub other_line : (d next : Draft) (line : List ℕ) → IsPrintable line → is_comment line ≡ false → after_words d.stage d line ≡ Ok next → after_line d line ≡ Ok next
 unfolding after_line
 other_line d next line p is step = rw (p, is) step
 

@@ -1,16 +1,16 @@
 -- The file behind its first bytes.
-use Rattle.std.proofs.Common.{◌≡◌, ℕ, List, take, Option, Result, Ok, Err, sym, subst, ◌∙◌}
+use Rattle.std.proofs.Common.{◌≡◌, ℕ, List, take, Option, Result, Ok, Err, sym, subst, ◌∙◌, inl, inr}
 use Rattle.outside.specs.Files.{File, Gave}
-use Rattle.outside.specs.Faults.{Broken}
 use Rattle.mtgui_top.specs.declared.fault.Fault.{Fault}
 use Rattle.mtgui_top.specs.declared.play.Stop.{Stop}
 use Rattle.mtgui_top.specs.declared.play.Stop.TheVariants as stop
 use Rattle.mtgui_top.specs.declared.play.Told.{Told}
 use Rattle.mtgui_top.specs.declared.play.Told.TheVariants as told
 use Rattle.mtgui_top.specs.Scripts.{Script, IsScript}
-use Rattle.mtgui_top.specs.Playing.{text_for}
-use Rattle.mtgui_top.specs.Outcome.{Shows, ShowsFile, Plays}
+use Rattle.mtgui_top.specs.Faults.{IsFault}
+use Rattle.mtgui_top.specs.Outcome.{IsTextOf, Shows, ShowsFile, Plays}
 use Rattle.mtgui_top.proofs.Scripts.{script_takes, script_again, script_of-take}
+use Rattle.mtgui_top.proofs.FaultLaws.{fault_is, fault_again}
 
 -- a file and its front of one byte more than a script may have say the same
 script-take : (file : List ℕ) (script : Script) → IsScript (take 100663297 file) script → IsScript file script
@@ -19,11 +19,18 @@ script-take file script h = script_takes file script (sym (script_of-take file) 
 take-script : (file : List ℕ) (script : Script) → IsScript file script → IsScript (take 100663297 file) script
 take-script file script h = script_takes (take 100663297 file) script (script_of-take file ∙ script_again file script h)
 
+take-fault : (file : List ℕ) (fault : Fault) → IsFault (take 100663297 file) fault → IsFault file fault
+take-fault file fault h = fault_is file fault (sym (script_of-take file) ∙ fault_again (take 100663297 file) fault h)
+
+take-text : (file text : List ℕ) → IsTextOf (take 100663297 file) text → IsTextOf file text
+take-text file text (inl h) = inl (h.0, script-take file h.0 h.1, h.2)
+take-text file text (inr h) = inr (h.0, take-fault file h.0 h.1, h.2)
+
 shows-take : (r : Result Told Stop) (file : List ℕ) (before now : ℕ) (old new : Option (List ℕ)) → Shows r (take 100663297 file) before now old new → Shows r file before now old new
 shows-take (Ok told.Script) file before now old new h = (h.0, script-take file h.0 h.1, h.2)
-shows-take (Ok told.Fault) file before now old new h = (h.0, (λ script is. h.1 script (take-script file script is)), sym (script_of-take file) ∙ h.2, h.3)
+shows-take (Ok told.Fault) file before now old new h = (h.0, (λ script is. h.1 script (take-script file script is)), take-fault file h.0 h.2, h.3)
 shows-take (Err stop.Store) file before now old new h = h
-shows-take (Err stop.Sink) file before now old new h = subst (λ (said : Result Script Fault). Broken before now old new (text_for said)) (script_of-take file) h
+shows-take (Err stop.Sink) file before now old new h = (h.0, take-text file h.0 h.1, h.2)
 shows-take (Err stop.Memory) file before now old new h = h
 
 of_file : (r : Result Told Stop) (files : Option (List File)) (name bytes : List ℕ) (before now : ℕ) (old new : Option (List ℕ)) → Gave files name 100663297 bytes → Shows r bytes before now old new → ShowsFile r files name before now old new

@@ -6,6 +6,9 @@ pub mod CommentLaws
 pub mod ScriptsTaken
 pub mod ScriptsAgain
 pub mod Scripts
+pub mod LineReasons
+pub mod Fronts
+pub mod FaultLaws
 pub mod MixedLemmas
 pub mod AreaLemmas
 pub mod FillLemmas

@@ -82,7 +82,7 @@ class_taken sides front class is counted =
 class_from_words : (d : Draft) (line : List ℕ) (words fields : List (List ℕ)) → words ≡ codes "class" ∷ fields → after_call d line (line_of words) ≡ after_call d line (line_of (codes "class" ∷ fields))
 class_from_words d line words fields e = ap (λ (ws : List (List ℕ)). after_call d line (line_of ws)) e
 
-no_line : (fields : List (List ℕ)) → line_of (codes "class" ∷ fields) ≡ None
+pub no_line : (fields : List (List ℕ)) → line_of (codes "class" ∷ fields) ≡ None
 unfolding line_of
 no_line fields = rw (no_natural 1 16 (codes "class") fields (lit< tt)) refl
 

@@ -12,7 +12,8 @@ use Rattle.mtgui_top.specs.declared.fault.Reason.TheVariants.{Later, Late, Asset
 use Rattle.mtgui_top.specs.Spelling.{text_of_words, header_lines, class_lines, colour_lines, text_of_line}
 use Rattle.mtgui_top.specs.Scripts.{Script, Fits, LineFits, text_lines}
 use Rattle.mtgui_top.specs.Fields.{words_of, after_word, screen_of, desktop_of, class_of, line_of}
-use Rattle.mtgui_top.specs.Reading.{Draft, empty_draft, after_value, header_reason, block_reason, is_later_class, after_opening, after_title, after_screen, after_buffers, after_desktop, after_block, after_class, after_other, after_call, after_body, after_words, script_from}
+use Rattle.mtgui_top.specs.Later.{is_later_class}
+use Rattle.mtgui_top.specs.Reading.{Draft, empty_draft, after_value, header_reason, block_reason, after_opening, after_title, after_screen, after_buffers, after_desktop, after_block, after_class, after_other, after_call, after_body, after_words, script_from}
 use Rattle.mtgui_top.proofs.Spellings.{chosen, named, after_word_takes, onto, line_from_words}
 use Rattle.mtgui_top.proofs.LineLaws.{screen_words, IsScreen, screen_takes, desktop_words, desktop_takes, class_fields, IsClass, class_takes, line_takes}
 use Rattle.mtgui_top.proofs.CommentLaws.{ok_is, taken_first, after_all}
@@ -67,11 +68,11 @@ abbrev Step : Stage → Type 0
 Step at = (d next : Draft) (front : List (List ℕ)) (line : List ℕ) → after_words at d line ≡ Ok next → Spells at d front → Spells next.stage next (front ++ line ∷ [])
 
 -- the draft after what a line spells
-taken_ok : {A : Type 0} (o : Option A) (reason : Reason) (make : A → Draft) (next : Draft) → after_value o reason make ≡ Ok next → (x : A) × (o ≡ Some x) × (make x ≡ next)
+pub taken_ok : {A : Type 0} (o : Option A) (reason : Reason) (make : A → Draft) (next : Draft) → after_value o reason make ≡ Ok next → (x : A) × (o ≡ Some x) × (make x ≡ next)
 taken_ok None reason make next e = absurd cc
 taken_ok (Some x) reason make next e = (x, refl, ok_is {E = Reason} _ _ e)
 
-tested_ok : (b : Bool) (made : Draft) (reason : Reason) (next : Draft) → cond b (Ok made) (Err reason) ≡ Ok next → (b ≡ true) × (made ≡ next)
+pub tested_ok : (b : Bool) (made : Draft) (reason : Reason) (next : Draft) → cond b (Ok made) (Err reason) ≡ Ok next → (b ≡ true) × (made ≡ next)
 tested_ok true made reason next e = (refl, ok_is {E = Reason} _ _ e)
 tested_ok false made reason next e = absurd cc
 
@@ -171,13 +172,13 @@ class_fits s class counted is fits =
       calls = fits.calls;
     }
 
-opening_ok : (d next : Draft) (o : Option (ℕ × ℕ)) → after_opening d o ≡ Ok next → (class : ℕ × ℕ) × (o ≡ Some class) × (class.0 ≡ length d.classes) × (record d { stage = stage.Block; classes = d.classes ++ class.1 ∷ [] } ≡ next)
+pub opening_ok : (d next : Draft) (o : Option (ℕ × ℕ)) → after_opening d o ≡ Ok next → (class : ℕ × ℕ) × (o ≡ Some class) × (class.0 ≡ length d.classes) × (record d { stage = stage.Block; classes = d.classes ++ class.1 ∷ [] } ≡ next)
 opening_ok d next None e = absurd cc
 opening_ok d next (Some class) e =
     let t = tested_ok (eqb class.0 (length d.classes)) (record d { stage = stage.Block; classes = d.classes ++ class.1 ∷ [] }) Asset next e in
     (class, refl, eqb-true _ _ t.0, t.1)
 
-class_ok : (d next : Draft) (words : List (List ℕ)) → after_class d words ≡ Ok next → (d.lines ≡ []) × (after_opening d (class_of words) ≡ Ok next)
+pub class_ok : (d next : Draft) (words : List (List ℕ)) → after_class d words ≡ Ok next → (d.lines ≡ []) × (after_opening d (class_of words) ≡ Ok next)
 unfolding after_class
 class_ok d next words e =
     elim (chosen (is_later_class words) (Err Later) (cond (eqb (length d.lines) 0) (after_opening d (class_of words)) (Err Late)) (Ok next) e) [

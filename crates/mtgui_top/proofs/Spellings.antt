@@ -111,15 +111,19 @@ unfolding natural_at
 natural_at_again low high n rest above below small = rw (natural_in_again low high n above below small) refl
 
 -- a word that doesn't begin with a digit spells no number
-pub no_natural : (low high : ℕ) (word : List ℕ) (rest : List (List ℕ)) → 57 < get_or word 0 0 → natural_at low high (word ∷ rest) ≡ None
-unfolding natural_at natural_in
-no_natural low high word rest other =
+pub no_natural_in : (low high : ℕ) (word : List ℕ) → 57 < get_or word 0 0 → natural_in low high word ≡ None
+unfolding natural_in
+no_natural_in low high word other =
     let none : natural_of word ≡ None = natural_none word (λ n small is.
     let k = decimal_is_IsNumeral n (omega arith) in
     let d = digit_at (decimal n) 0 k.0.1 k.0.0 in
     let first : get_or word 0 0 ≡ get_or (decimal n) 0 0 = ap (λ (w : List ℕ). get_or w 0 0) is in
     absurd (omega arith)) in
     rw none refl
+
+pub no_natural : (low high : ℕ) (word : List ℕ) (rest : List (List ℕ)) → 57 < get_or word 0 0 → natural_at low high (word ∷ rest) ≡ None
+unfolding natural_at
+no_natural low high word rest other = rw (no_natural_in low high word other) refl
 
 -- ---- colours
 

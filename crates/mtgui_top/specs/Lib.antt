@@ -3,7 +3,9 @@ pub mod Parts
 pub mod Fields
 pub mod Spelling
 pub mod Scripts
+pub mod Later
 pub mod Reading
+pub mod Faults
 pub mod Pictures
 pub mod Texts
 pub mod Setups

@@ -11,8 +11,8 @@ use Rattle.mtgui_top.specs.declared.play.Stop.TheVariants as stop
 use Rattle.mtgui_top.specs.declared.play.Told.{Told}
 use Rattle.mtgui_top.specs.declared.play.Told.TheVariants as told
 use Rattle.mtgui_top.specs.Scripts.{Script, IsScript}
-use Rattle.mtgui_top.specs.Reading.{script_of}
-use Rattle.mtgui_top.specs.Playing.{play_text, fault_line, text_for, IsPlay}
+use Rattle.mtgui_top.specs.Faults.{IsFault}
+use Rattle.mtgui_top.specs.Playing.{play_text, fault_line, IsPlay}
 
 abbrev pub stop_of : ReadRefused → Stop
 stop_of refused.Failed = stop.Store
@@ -22,12 +22,16 @@ stop_of refused.Memory = stop.Memory
 abbrev pub IsNoScript : List ℕ → Type 0
 IsNoScript file = (script : Script) → IsScript file script → ⊥
 
+-- what is to be written for a file: the play text of its script, or the line of its fault
+abbrev pub IsTextOf : List ℕ → List ℕ → Type 0
+IsTextOf file text = ((script : Script) × IsScript file script × (text ≡ play_text script)) ⊎ ((fault : Fault) × IsFault file fault × (text ≡ fault_line fault))
+
 -- what was written for a file, and how it ended
 abbrev pub Shows : Result Told Stop → List ℕ → ℕ → ℕ → Option (List ℕ) → Option (List ℕ) → Type 0
 Shows (Ok told.Script) file before now old new = (script : Script) × IsScript file script × Whole before now old new (play_text script)
-Shows (Ok told.Fault) file before now old new = (fault : Fault) × IsNoScript file × (script_of file ≡ Err fault) × Whole before now old new (fault_line fault)
+Shows (Ok told.Fault) file before now old new = (fault : Fault) × IsNoScript file × IsFault file fault × Whole before now old new (fault_line fault)
 Shows (Err stop.Store) file before now old new = ⊥
-Shows (Err stop.Sink) file before now old new = Broken before now old new (text_for (script_of file))
+Shows (Err stop.Sink) file before now old new = (text : List ℕ) × IsTextOf file text × Broken before now old new text
 Shows (Err stop.Memory) file before now old new = Whole before now old new []
 
 -- the same for the file of that name

@@ -1,5 +1,5 @@
 -- What is written for a file, and the words that ask for it.
-use Rattle.std.specs.Prelude.{◌≡◌, ℕ, ◌+◌, Bool, true, false, ◌||◌, not, ◌==◌, if◌then◌else◌, List, [], ◌∷◌, ◌++◌, length, map, codes, slice_index, Result, Ok, Err, String, string_bytes}
+use Rattle.std.specs.Prelude.{◌≡◌, ℕ, ◌+◌, Bool, true, false, ◌||◌, not, ◌==◌, if◌then◌else◌, List, [], ◌∷◌, ◌++◌, length, map, codes, slice_index, String, string_bytes}
 use Rattle.std.specs.declared.alloc.Global.{Global}
 use Rattle.mtgui_top.specs.declared.line.Line.{Line}
 use Rattle.mtgui_top.specs.declared.reply.Reply.{Reply}
@@ -58,11 +58,6 @@ reason_text reason.End = codes "end"
 -- the line for a file that is no script
 abbrev pub fault_line : Fault → List ℕ
 fault_line fault = fault_text fault.line (reason_text fault.reason)
-
--- what is written for a file that is a script, or has a fault
-abbrev pub text_for : Result Script Fault → List ℕ
-text_for (Ok script) = play_text script
-text_for (Err fault) = fault_line fault
 
 -- ---- words
 

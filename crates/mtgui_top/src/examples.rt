@@ -1,6 +1,9 @@
 //! What the definitions of the texts give: at some values by computation, and the room that a row's line needs.
 
-ghost use Rattle.std.specs.Prelude.{◌≡◌, ℕ, ◌*◌, ◌≤◌, List, pos, length, codes};
+ghost use Rattle.std.specs.Prelude.{◌≡◌, ◌↔◌, ℕ, ◌*◌, ◌≤◌, List, pos, length, codes};
+ghost use Rattle.mtgui_top.specs.declared.fault.Fault.{Fault};
+ghost use Rattle.mtgui_top.specs.Faults.{IsFault};
+ghost use Rattle.mtgui_top.specs.Outcome.{IsNoScript};
 ghost use Rattle.mtgui_top.specs.Digits.{hex_colour};
 ghost use Rattle.mtgui_top.specs.Texts.{points_line, frame_text, reply_text, summary_text, fault_text};
 ghost use Rattle.mtgui_top.specs.Scripts.{text_lines};
@@ -37,4 +40,10 @@ pub fn scripts_in_numbers()
     ensures first { play_text first_script ≡ codes "ok 2\nok 2\nframe 8 4\n000000*8\n000000*2 0000FF*3 000000*3\n=\n000000*8\ndone calls 3 refused 0 shown 0 windows 2\n" }
     ensures refused { play_text refused_script ≡ codes "refused BadSize\nrefused NoClass 7\nok 1\ndone calls 3 refused 2 shown 0 windows 1\n" }
     ensures spelled { text_lines refused_script ≡ refused_lines }
+{}
+
+/// Does nothing. A file has a fault just where it is no script, and no second one.
+pub fn faults_are_first()
+    ensures either { (file : List ℕ) → ((fault : Fault) × IsFault file fault) ↔ IsNoScript file }
+    ensures one { (file : List ℕ) (a b : Fault) → IsFault file a → IsFault file b → a ≡ b }
 {}

@@ -24,6 +24,8 @@ mod words;
 pub use play::plain_words;
 
 #[cfg(test)]
+mod fault_tests;
+#[cfg(test)]
 mod play_tests;
 #[cfg(test)]
 mod reader_tests;

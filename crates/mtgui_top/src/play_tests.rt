@@ -11,7 +11,7 @@ const FIRST_PLAYED: &str =
     "ok 2\nok 2\nframe 8 4\n000000*8\n000000*2 0000FF*3 000000*3\n=\n000000*8\ndone calls 3 refused 0 shown 0 windows 2\n";
 
 /// A store whose one file is `F`.
-fn store_of(alloc: Global, text: &str, failing: &[u64]) -> Result<MemStore, Fail> {
+pub fn store_of(alloc: Global, text: &str, failing: &[u64]) -> Result<MemStore, Fail> {
     let mut files = Vec::new(alloc);
     files.push(NamedFile {
         name: String::from_str(alloc, "F")?,
@@ -21,7 +21,7 @@ fn store_of(alloc: Global, text: &str, failing: &[u64]) -> Result<MemStore, Fail
 }
 
 /// The status of these words, and the bytes that are written where there is room for so many.
-fn done(
+pub fn done(
     alloc: Global,
     words: &str,
     mut store: MemStore,

@@ -1,9 +1,10 @@
 //! Reads scripts.
 
-ghost use Rattle.std.specs.Prelude.{◌≡◌, Ok, Err, IfOk, MatchResult};
+ghost use Rattle.std.specs.Prelude.{◌≡◌, Ok, Err, IfOk, IfErr, MatchResult};
 ghost use Rattle.mtgui_top.specs.declared.fault.ReadError.{ReadError};
 ghost use Rattle.mtgui_top.specs.Parts.{is_printable, is_comment};
 ghost use Rattle.mtgui_top.specs.Scripts.{Script, IsScript};
+ghost use Rattle.mtgui_top.specs.Faults.{IsError};
 ghost use Rattle.mtgui_top.specs.Reading.{draft_of, after_line, script_of, Takes, Says};
 
 use crate::draft::{Draft, Stage};
@@ -78,8 +79,8 @@ pub fn read(alloc: Global, text: &[u8]) -> Result<Script, ReadError>
     ensures found { IfOk result (λ s. IsScript text.now s) }
     // A script is read, unless memory runs out.
     ensures only { (s : Script) → IsScript text.now s → MatchResult result (λ t. t ≡ s) (λ e. e ≡ ReadError.Memory) }
-    // A fault is at the first line that is wrong, with its first reason.
-    ensures exact { MatchResult result (λ s. script_of text.now ≡ Ok s) (Says (script_of text.now)) }
+    // Otherwise its fault is told: at the first line that has a reason, with the first reason of that line.
+    ensures fault { IfErr result (IsError text.now) }
 {
     read_lines(alloc, text)
 }

@@ -2,7 +2,8 @@
 
 ghost use Rattle.std.specs.Prelude.{◌≡◌};
 ghost use Rattle.mtgui_top.specs.Fields.{left, words_of};
-ghost use Rattle.mtgui_top.specs.Reading.{is_one_of, begins_with_one_of, is_later_class, is_later_call, header_reason, block_reason, call_reason};
+ghost use Rattle.mtgui_top.specs.Later.{is_one_of, is_later_class, is_later_call};
+ghost use Rattle.mtgui_top.specs.Reading.{header_reason, block_reason, call_reason};
 
 use crate::fault::Reason;
 use crate::words::{begins_with, natural_in, word_at};
@@ -18,7 +19,7 @@ const LATER_CALLS: &[u8] =
     b"delete move_to move_by resize show hide to_top to_bottom set_class set_trans set_memdev set_value send invalidate invalidate_rect invalidate_area select colour bk_colour text_mode font save restore fill frame line bitmap text dev_create dev_delete dev_select dev_copy begin end exec1 lock unlock";
 
 /// Whether the word is one of those in the text.
-#[tactic(auto, unfolding(crate::specs::Reading::is_one_of))]
+#[tactic(auto, unfolding(crate::specs::Later::is_one_of))]
 fn is_one_of(names: &[u8], word: &[u8]) -> bool
     ensures { result ≡ is_one_of names.now word.now }
 {
@@ -35,7 +36,7 @@ pub fn is_later_class(rest: Option<&[u8]>) -> bool
     }
 }
 
-#[tactic(auto, unfolding(crate::specs::Reading::later_calls))]
+#[tactic(auto, unfolding(crate::specs::Later::later_calls))]
 fn is_later_call(rest: Option<&[u8]>) -> bool
     ensures { result ≡ is_later_call (left rest.entry) }
 {
@@ -63,7 +64,7 @@ pub fn header_reason(line: &[u8]) -> Reason
 }
 
 /// Why a line doesn't belong in a class's block.
-#[tactic(auto, unfolding(crate::specs::Reading::later_in_block))]
+#[tactic(auto, unfolding(crate::specs::Later::later_in_block))]
 pub fn block_reason(line: &[u8]) -> Reason
     ensures { result ≡ block_reason (words_of line.now) }
 {
@@ -74,7 +75,7 @@ pub fn block_reason(line: &[u8]) -> Reason
 }
 
 /// Why a line that opens no class is no call line.
-#[tactic(auto, unfolding(crate::specs::Reading::later_words))]
+#[tactic(auto, unfolding(crate::specs::Later::later_words))]
 pub fn call_reason(line: &[u8]) -> Reason
     ensures { result ≡ call_reason (words_of line.now) }
 {

@@ -1,4 +1,5 @@
 use Rattle.mtgui_top.proofs.Scripts.{is_found, only_script}
+use Rattle.mtgui_top.proofs.FaultLaws.{is_error}
 use Rattle.mtgui_top.proofs.reader.read.Goals as goal
 
 pub returns-clause-found : goal.returns-clause-found
@@ -6,3 +7,6 @@ returns-clause-found c = is_found c.args.text.now c.read_lines.result c.read_lin
 
 pub returns-clause-only : goal.returns-clause-only
 returns-clause-only c = λ s is. only_script c.args.text.now c.read_lines.result s c.read_lines.ensures is
+
+pub returns-clause-fault : goal.returns-clause-fault
+returns-clause-fault c = is_error c.args.text.now c.read_lines.result c.read_lines.ensures

@@ -2,7 +2,7 @@ use Rattle.std.proofs.Common.{ℕ, List, eqb, rules, tests}
 use Rattle.std.specs.Prelude.{bytes_eq}
 use Rattle.std.proofs.lemmas.Iterator.Search.{any_from_yields_List}
 use Rattle.std.proofs.lemmas.Iterator.Splits.{YieldsList-from_slice_split}
-use Rattle.mtgui_top.specs.Reading.{is_one_of}
+use Rattle.mtgui_top.specs.Later.{is_one_of}
 use Rattle.mtgui_top.proofs.reasons.is_one_of.Goals as goal
 
 pub returns : goal.returns
