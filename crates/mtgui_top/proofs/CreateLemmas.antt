@@ -49,7 +49,7 @@ place_of-invalidated looks area w =
       | inr e ↦ rw e refl
     ]
 
-places-invalidated : (looks : Looks) (area : Rect) (ws : List Win) → map place_of (map (invalidated looks area) ws) ≡ map place_of ws
+pub places-invalidated : (looks : Looks) (area : Rect) (ws : List Win) → map place_of (map (invalidated looks area) ws) ≡ map place_of ws
 places-invalidated looks area [] = refl
 places-invalidated looks area (w ∷ ws) = rw (place_of-invalidated looks area w, places-invalidated looks area ws) refl
 

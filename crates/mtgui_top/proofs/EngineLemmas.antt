@@ -20,7 +20,7 @@ clips_of-same setup ws vs e = clips-same (screen_of setup) ws vs e
 
 -- ---- a job
 
-places-job : (ws : List Win) → map place_of (windows_after_job ws) ≡ map place_of ws
+pub places-job : (ws : List Win) → map place_of (windows_after_job ws) ≡ map place_of ws
 places-job [] = refl
 places-job (w ∷ ws) =
     elim (cases_Bool (is_invalid w)) [

@@ -110,10 +110,13 @@ test_false : {A : Type 0} (b : Bool) (x : A) → cond b (Some x) None ≡ None �
 test_false true x e = absurd cc
 test_false false x e = refl
 
-pub no_jobs : (ws : List Win) → position is_invalid ws ≡ None → count_by is_invalid ws ≡ 0
-no_jobs ws e =
+pub none_invalid : (ws : List Win) → position is_invalid ws ≡ None → AllByRecursion (λ v. is_invalid v ≡ false) ws
+none_invalid ws e =
     let past = ltb-false _ _ (test_false (ltb (position_or_len is_invalid ws) (length ws)) (position_or_len is_invalid ws) e) in
-    none_counts ws (recursion_from_All (λ v. is_invalid v ≡ false) ws (λ k d lt. fails_before_first is_invalid ws k d (omega arith)))
+    recursion_from_All (λ v. is_invalid v ≡ false) ws (λ k d lt. fails_before_first is_invalid ws k d (omega arith))
+
+pub no_jobs : (ws : List Win) → position is_invalid ws ≡ None → count_by is_invalid ws ≡ 0
+no_jobs ws e = none_counts ws (none_invalid ws e)
 
 -- ---- by places
 

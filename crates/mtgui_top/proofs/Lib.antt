@@ -21,5 +21,7 @@ pub mod RunLemmas
 pub mod FrameLemmas
 pub mod Writes
 pub mod PlayLemmas
+pub mod SeenLemmas
+pub mod DamageLaws
 pub mod ScriptTexts
 pub mod Files

@@ -14,5 +14,6 @@ pub mod States
 pub mod Areas
 pub mod Machines
 pub mod Playing
+pub mod Promises
 pub mod Outcome
 pub mod Examples

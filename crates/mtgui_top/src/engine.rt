@@ -232,3 +232,6 @@ fn is_bad_size(w: u16, h: u16) -> bool
 {
     w == 0 || h == 0 || w > MOST_SIDE || h > MOST_SIDE
 }
+
+#[cfg(test)]
+mod tests;

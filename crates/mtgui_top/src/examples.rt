@@ -3,10 +3,18 @@
 ghost use Rattle.std.specs.Prelude.{◌≡◌, ◌↔◌, ℕ, ◌*◌, ◌≤◌, List, pos, length, codes};
 ghost use Rattle.mtgui_top.specs.declared.fault.Fault.{Fault};
 ghost use Rattle.mtgui_top.specs.Faults.{IsFault};
+ghost use Rattle.gfx_base.specs.declared.point.Point.{Point};
+ghost use Rattle.scene.specs.declared.win.Win.{Win};
+ghost use Rattle.scene.specs.Painting.{windows_at, visible, painted_over, painted};
+ghost use Rattle.mtgui_top.specs.declared.line.Line.{Line};
+ghost use Rattle.mtgui_top.specs.Setups.{Setup};
+ghost use Rattle.mtgui_top.specs.Looks.{looks_of};
+ghost use Rattle.mtgui_top.specs.States.{State, opening, step, state_after};
+ghost use Rattle.mtgui_top.specs.Promises.{DamageCovers, NoneInvalid, ScansShowPainter};
 ghost use Rattle.mtgui_top.specs.Outcome.{IsNoScript};
 ghost use Rattle.mtgui_top.specs.Digits.{hex_colour};
 ghost use Rattle.mtgui_top.specs.Texts.{points_line, frame_text, reply_text, summary_text, fault_text};
-ghost use Rattle.mtgui_top.specs.Scripts.{text_lines};
+ghost use Rattle.mtgui_top.specs.Scripts.{Script, text_lines};
 ghost use Rattle.mtgui_top.specs.Playing.{play_text};
 ghost use Rattle.mtgui_top.specs.Examples.{single, striped, mixed_row, first_script, refused_script, refused_lines};
 
@@ -46,4 +54,13 @@ pub fn scripts_in_numbers()
 pub fn faults_are_first()
     ensures either { (file : List ℕ) → ((fault : Fault) × IsFault file fault) ↔ IsNoScript file }
     ensures one { (file : List ℕ) (a b : Fault) → IsFault file a → IsFault file b → a ≡ b }
+{}
+
+/// Does nothing. After any calls the picture is the painter's outside the damage, and everywhere where no window waits to
+/// be painted.
+pub fn damage_covers_change()
+    ensures visible { (setup : Setup) (ws : List Win) (p : Point) → painted (looks_of setup ws) ws p ≡ painted_over (looks_of setup ws) p 0 (visible (looks_of setup ws) (windows_at (looks_of setup ws) ws p)) }
+    ensures covers { (setup : Setup) (lines : List Line) → DamageCovers setup (state_after setup (opening setup) lines) }
+    ensures exec { (setup : Setup) (s : State) → NoneInvalid (step setup s Call.Exec).0.windows }
+    ensures scans { (script : Script) → ScansShowPainter script }
 {}

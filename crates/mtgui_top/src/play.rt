@@ -2,6 +2,9 @@
 
 ghost use Rattle.std.specs.Prelude.{◌≡◌, ◌↔◌, ◌⊎◌, ◌<◌, ◌≤◌, ◌++◌, if◌then◌else◌, List, [], ℕ, Ok, Err, length, codes, MatchOption};
 ghost use Rattle.outside.specs.Faults.{Wrote, Refused, Whole};
+ghost use Rattle.outside.specs.Files.{IsFile};
+ghost use Rattle.mtgui_top.specs.Scripts.{Script, IsScript};
+ghost use Rattle.mtgui_top.specs.Promises.{ScansShowPainter};
 ghost use Rattle.mtgui_top.specs.Playing.{replies, is_refused, summary_of, play_text, reason_text, fault_line, setup_for, is_file_name, IsPlay};
 ghost use Rattle.mtgui_top.specs.Outcome.{Shows, ShowsFile, Plays, PlaysScript, stop_of, IsStatus, IsComplete};
 ghost use Rattle.mtgui_top.specs.declared.play.Stop.TheVariants.{Sink, Memory};
@@ -185,6 +188,8 @@ pub fn plain_words<S: Store, K: Sink>(
     // The file is a script, and its play text was written.
     ensures played { result ≡ 0 → (name : List ℕ) × IsPlay words.now name
         × ShowsFile (Ok Told.Script) (S.files store.old) name (K.faults out.old) (K.faults out.new) (K.written out.old) (K.written out.new) }
+    // At each scan at which no window waits to be painted, what was written is the painter's picture.
+    ensures scans { result ≡ 0 → (name file : List ℕ) × (script : Script) × IsPlay words.now name × IsFile (S.files store.old) name file × IsScript file script × ScansShowPainter script }
     // The file is no script, and the line of its fault was written.
     ensures no_script { result ≡ 3 → (name : List ℕ) × IsPlay words.now name
         × ShowsFile (Ok Told.Fault) (S.files store.old) name (K.faults out.old) (K.faults out.new) (K.written out.old) (K.written out.new) }

@@ -1,0 +1,418 @@
+-- The damage covers every change: outside it the picture is the painter's.
+use Rattle.std.proofs.Common.{◌≡◌, ℕ, ℤ, pos, zero, suc, ◌+◌, ◌*◌, ◌/◌, ◌%◌, ◌+ℤ◌, ◌-ℤ◌, ◌<◌, ◌≤◌, Bool, true, false, ◌&&◌, List, [], ◌∷◌, ◌++◌, map, get_or, drop, Option, Some, None, refl, sym, ap, ◌∙◌, inl, inr, arith, append_assoc}
+use Rattle.std.specs.Prelude.{◌⊎◌, is_some, position}
+use Rattle.std.specs.List.{list_any, range_with_len, AllByRecursion}
+use Rattle.std.proofs.lemmas.Bool.{cases_Bool}
+use Rattle.std.proofs.lemmas.Int.{ints}
+use Rattle.std.proofs.lemmas.List.FromFn.{get_or-map-range_with_len}
+use Rattle.std.proofs.lemmas.Nat.{div-mul-add, mod-mul-add, mul-add-lt, div_below}
+use Rattle.std.proofs.Math.Nat.{mod-lt, mul-zero}
+use Rattle.gfx_base.specs.declared.point.Point.{Point}
+use Rattle.gfx_base.specs.declared.rect.Rect.{Rect}
+use Rattle.gfx_base.specs.Range.{is_within}
+use Rattle.gfx_base.specs.Rects.{has, is_empty, meet, point_at}
+use Rattle.gfx_base.proofs.RectLemmas.{has-meet, is_empty-has, cover-smallest}
+use Rattle.scene.specs.declared.win.Win.{Win}
+use Rattle.scene.specs.Places.{Place, place_of, place_at}
+use Rattle.scene.specs.Clips.{deepest_level, corner_of, corner_from, frame_of, clip_from, clip_of, outer_clip}
+use Rattle.scene.specs.Painting.{Looks, windows_at, visible, painted_over, painted}
+use Rattle.scene.specs.Damage.{some_has, is_invalid_at, is_damaged, grown, with_invalid, invalidated}
+use Rattle.mtgui_top.specs.declared.line.Call.{Call}
+use Rattle.mtgui_top.specs.declared.line.Call.TheVariants.{Create, Exec, Scan}
+use Rattle.mtgui_top.specs.declared.line.Line.{Line}
+use Rattle.mtgui_top.specs.declared.reply.Refusal.{Refusal}
+use Rattle.mtgui_top.specs.Pictures.{Picture, picture_of, colour_at}
+use Rattle.mtgui_top.specs.Setups.{Setup, screen_of}
+use Rattle.mtgui_top.specs.Looks.{looks_of}
+use Rattle.mtgui_top.specs.States.{State, desktop_with, opening, new_window, with_window, after_create, refusal_of_create, is_invalid, windows_after_job, is_in_job, colour_after_job, after_job, after_jobs, jobs_of, created, step, state_after}
+use Rattle.mtgui_top.specs.Texts.{reply_text, frame_text}
+use Rattle.mtgui_top.specs.Scripts.{Script}
+use Rattle.mtgui_top.specs.Playing.{setup_for, replies, summary_of}
+use Rattle.mtgui_top.specs.Promises.{DamageCovers, NoneInvalid, painter, before_line, ScansShowPainter}
+use Rattle.mtgui_top.proofs.ScriptsTaken.{all-push}
+use Rattle.mtgui_top.proofs.EngineLemmas.{places-job, jobs-step}
+use Rattle.mtgui_top.proofs.JobLemmas.{none_invalid, no_jobs}
+use Rattle.mtgui_top.proofs.CreateLemmas.{places-invalidated}
+use Rattle.mtgui_top.proofs.SeenLemmas.{Unseen, painted-map, damaged-map, visible_at-map, looks_of-same, unseen_valid, unseen_invalid, or_false, damaged-cons, damaged-from, visible-last, windows_at-agree, windows_at-away, windows_at-here}
+
+-- ---- pictures
+
+pub colour_at-picture : (w h : ℕ) (f : ℕ → ℕ → ℕ) (x y : ℕ) → x < w → y < h → colour_at (picture_of w h f) x y ≡ f x y
+colour_at-picture w h f x y x_in y_in =
+    get_or-map-range_with_len (λ (i : ℕ). f (i % w) (i / w)) 0 (h * w) (y * w + x) (y * w + x) 0 (omega (arith, mul-add-lt y w x h y_in x_in)) (omega arith)
+    ∙ ap (λ (column : ℕ). f column ((y * w + x) / w)) (mod-mul-add y w x x_in)
+    ∙ ap (f x) (div-mul-add y w x x_in)
+
+same_list : (a n : ℕ) (f g : ℕ → ℕ) → ((i : ℕ) → a ≤ i → i < a + n → f i ≡ g i) → map f (range_with_len a n) ≡ map g (range_with_len a n)
+same_list a zero f g same = refl
+same_list a (suc n) f g same =
+    ap (λ (c : ℕ). c ∷ map f (range_with_len (a + 1) n)) (same a (omega arith) (omega arith))
+    ∙ ap (λ (cs : List ℕ). g a ∷ cs) (same_list (a + 1) n f g (λ i low high. same i (omega arith) (omega arith)))
+
+abbrev picture_with : ℕ → ℕ → List ℕ → Picture
+picture_with w h points = record { width = w; height = h; points = points }
+
+wide_of : (w h i : ℕ) → i < h * w → 0 < w
+wide_of zero h i less = let none : h * 0 ≡ 0 = mul-zero h in absurd (omega arith)
+wide_of (suc w) h i less = omega arith
+
+pub picture_of-same : (w h : ℕ) (f g : ℕ → ℕ → ℕ) → ((x y : ℕ) → x < w → y < h → f x y ≡ g x y) → picture_of w h f ≡ picture_of w h g
+picture_of-same w h f g same =
+    ap (picture_with w h) (same_list 0 (h * w) (λ i. f (i % w) (i / w)) (λ i. g (i % w) (i / w)) (λ i low high.
+    let inside : i < h * w = omega arith in
+    let wide : 0 < w = wide_of w h i inside in
+    same (i % w) (i / w) (mod-lt i wide) (div_below i w h wide inside)))
+
+-- ---- a job
+
+abbrev bare : Win → Win
+bare w = with_invalid w None
+
+bare-job : (ws : List Win) → map bare (windows_after_job ws) ≡ map bare ws
+bare-job [] = refl
+bare-job (w ∷ ws) =
+    elim (cases_Bool (is_invalid w)) [
+      | inl invalid ↦ rw invalid refl
+      | inr valid ↦ rw valid (ap (λ (vs : List Win). bare w ∷ vs) (bare-job ws))
+    ]
+
+painted-job : (setup : Setup) (ws : List Win) (p : Point) → painted (looks_of setup (windows_after_job ws)) (windows_after_job ws) p ≡ painted (looks_of setup ws) ws p
+painted-job setup ws p =
+    let looks = looks_of setup ws in
+    ap (λ (k : Looks). painted k (windows_after_job ws) p) (looks_of-same setup (windows_after_job ws) ws (places-job ws))
+    ∙ sym (painted-map looks bare (windows_after_job ws) p (unseen_valid setup ws))
+    ∙ ap (λ (vs : List Win). painted looks vs p) (bare-job ws)
+    ∙ painted-map looks bare ws p (unseen_valid setup ws)
+
+not_invalid_at : (o : Option Rect) (p : Point) → is_some o ≡ false → some_has o p ≡ false
+not_invalid_at None p none = refl
+not_invalid_at (Some r) p none = absurd cc
+
+false_is_true : false ≡ true → ⊥
+false_is_true e = cc
+
+-- the job takes away no damage but its own
+job_damage : (looks : Looks) (ws : List Win) (p : Point) → is_damaged looks ws p ≡ true → (is_in_job looks ws p ≡ true) ⊎ (is_damaged looks (windows_after_job ws) p ≡ true)
+job_damage looks [] p some = absurd (false_is_true some)
+job_damage looks (w ∷ ws) p some =
+    elim (cases_Bool (is_invalid w)) [
+      | inl invalid ↦
+          elim (damaged-from looks w ws p some) [
+            | inl others ↦ inr (rw invalid (damaged-cons looks (bare w) ws p others))
+            | inr own ↦ inl (rw (invalid, own.2, own.0, own.1) refl)
+          ]
+      | inr valid ↦
+          elim (damaged-from looks w ws p some) [
+            | inl others ↦
+                elim (job_damage looks ws p others) [
+                  | inl here ↦ inl (rw valid here)
+                  | inr there ↦ inr (rw valid (damaged-cons looks w (windows_after_job ws) p there))
+                ]
+            | inr own ↦ absurd (false_is_true (sym (not_invalid_at w.invalid p valid) ∙ own.2))
+          ]
+    ]
+
+job_covers : (setup : Setup) (s : State) → DamageCovers setup s → DamageCovers setup (after_job setup s)
+job_covers setup s covers x y x_in y_in outside =
+    let p : Point = point_at (pos x) (pos y) in
+    let looks = looks_of setup s.windows in
+    let now = windows_after_job s.windows in
+    let undamaged : is_damaged looks now p ≡ false = sym (ap (λ (k : Looks). is_damaged k now p) (looks_of-same setup now s.windows (places-job s.windows))) ∙ outside in
+    colour_at-picture setup.width setup.height (colour_after_job looks s.windows s.shown) x y x_in y_in
+    ∙ elim (cases_Bool (is_in_job looks s.windows p)) [
+      | inl here ↦ rw here (sym (painted-job setup s.windows p))
+      | inr there ↦
+          rw there
+          (covers x y x_in y_in (elim (cases_Bool (is_damaged looks s.windows p)) [
+            | inl some ↦
+                elim (job_damage looks s.windows p some) [
+                  | inl here ↦ absurd (false_is_true (sym there ∙ here))
+                  | inr left ↦ absurd (false_is_true (sym undamaged ∙ left))
+                ]
+            | inr none ↦ none
+          ])
+          ∙ sym (painted-job setup s.windows p))
+    ]
+
+jobs_cover : (setup : Setup) (n : ℕ) (s : State) → DamageCovers setup s → DamageCovers setup (after_jobs setup n s)
+jobs_cover setup zero s covers = covers
+jobs_cover setup (suc n) s covers = jobs_cover setup n (after_job setup s) (job_covers setup s covers)
+
+-- ---- a window more
+
+-- the desktop comes first, and all others lie in it
+abbrev pub IsRooted : List Win → Type 0
+IsRooted [] = ⊥
+IsRooted (desktop ∷ ws) = (desktop.handle ≡ 1) × (desktop.parent ≡ 0) × AllByRecursion (λ w. w.parent ≡ 1) ws
+
+corner_root : (levels : ℕ) (found other : ℕ → Option Place) (q : Place) → q.parent ≡ 0 → corner_of levels found q ≡ corner_of levels other q
+corner_root zero found other q e = refl
+corner_root (suc levels) found other q e = rw e refl
+
+clip_root : (levels : ℕ) (screen : Rect) (found other : ℕ → Option Place) (q : Place) → q.parent ≡ 0 → clip_of levels screen found q ≡ clip_of levels screen other q
+clip_root zero screen found other q e = refl
+clip_root (suc levels) screen found other q e = rw e refl
+
+clip_child : (levels : ℕ) (screen : Rect) (found other : ℕ → Option Place) (q d : Place) → q.parent ≡ 1 → found 1 ≡ Some d → other 1 ≡ Some d → d.parent ≡ 0 → clip_of levels screen found q ≡ clip_of levels screen other q
+clip_child zero screen found other q d e f g top = refl
+clip_child (suc levels) screen found other q d e f g top =
+    rw (e, f, g)
+    (ap (λ (c : Point). clip_from q (corner_from q c) (outer_clip screen false (Some (clip_of levels screen found d)))) (corner_root levels found other d top)
+    ∙ ap (λ (r : Rect). clip_from q (corner_from q (corner_of levels other d)) (outer_clip screen false (Some r))) (clip_root levels screen found other d top))
+
+root_found : (desktop : Win) (ws : List Win) → desktop.handle ≡ 1 → place_at (desktop ∷ ws) 1 ≡ Some (place_of desktop)
+root_found desktop ws e = rw e refl
+
+children_agree : (setup : Setup) (desktop : Win) (ws vs us : List Win) → desktop.handle ≡ 1 → desktop.parent ≡ 0 → AllByRecursion (λ w. w.parent ≡ 1) us
+    → AllByRecursion (λ w. (looks_of setup (desktop ∷ vs)).clip w ≡ (looks_of setup (desktop ∷ ws)).clip w) us
+children_agree setup desktop ws vs [] handle top all = tt
+children_agree setup desktop ws vs (u ∷ us) handle top all = (
+  clip_child deepest_level (screen_of setup) (place_at (desktop ∷ vs)) (place_at (desktop ∷ ws)) (place_of u) (place_of desktop) all.0 (root_found desktop vs handle) (root_found desktop ws handle) top,
+  children_agree setup desktop ws vs us handle top all.1,
+)
+
+-- a window on top moves no clip
+clips_agree : (setup : Setup) (ws : List Win) (w : Win) → IsRooted ws → AllByRecursion (λ v. (looks_of setup (ws ++ w ∷ [])).clip v ≡ (looks_of setup ws).clip v) ws
+clips_agree setup [] w rooted = tt
+clips_agree setup (desktop ∷ ws) w rooted = (
+  clip_root deepest_level (screen_of setup) (place_at (desktop ∷ ws ++ w ∷ [])) (place_at (desktop ∷ ws)) (place_of desktop) rooted.1,
+  children_agree setup desktop ws (ws ++ w ∷ []) ws rooted.0 rooted.1 rooted.2,
+)
+
+-- an invalid rectangle loses no point
+grown_has : (o : Option Rect) (r : Rect) (p : Point) → some_has o p ≡ true → has (grown o r) p ≡ true
+grown_has None r p some = absurd (false_is_true some)
+grown_has (Some old) r p some = let both = cover-smallest old r in both.first p some
+
+invalid_grows : (looks : Looks) (r : Rect) (p : Point) (w : Win) → is_invalid_at p w ≡ true → is_invalid_at p (invalidated looks r w) ≡ true
+invalid_grows looks r p w some =
+    elim (cases_Bool (is_empty (meet r (looks.clip w)))) [
+      | inl e ↦ rw e some
+      | inr e ↦ rw e (grown_has w.invalid (meet r (looks.clip w)) p some)
+    ]
+
+-- ---- create
+
+both_are : (a b : Bool) → a ≡ true → b ≡ true → (a && b) ≡ true
+both_are true b e f = f
+both_are false b e f = e
+
+both_true : (b : Bool) → b ≡ true → (b && b) ≡ true
+both_true true e = refl
+both_true false e = e
+
+first_has : (o : Option Rect) (r : Rect) (p : Point) → o ≡ None → has r p ≡ true → has (grown o r) p ≡ true
+first_has None r p none some = some
+first_has (Some old) r p none some = absurd cc
+
+-- the new window waits to be painted wherever it lies
+new_is_invalid : (looks : Looks) (w : Win) (p : Point) → w.invalid ≡ None → has (looks.clip w) p ≡ true → is_invalid_at p (invalidated looks (looks.clip w) w) ≡ true
+new_is_invalid looks w p none here =
+    let inside : has (meet (looks.clip w) (looks.clip w)) p ≡ true = has-meet (looks.clip w) (looks.clip w) p ∙ both_true (has (looks.clip w) p) here in
+    rw (is_empty-has (meet (looks.clip w) (looks.clip w)) p inside) (first_has w.invalid (meet (looks.clip w) (looks.clip w)) p none inside)
+
+-- the windows after a new one, and the damage where that one lies
+here_is_damaged : (looks : Looks) (ws : List Win) (w : Win) (p : Point) → Unseen looks (invalidated looks (looks.clip w)) → looks.is_opaque w ≡ true → w.invalid ≡ None → has (looks.clip w) p ≡ true
+    → is_damaged looks (map (invalidated looks (looks.clip w)) (ws ++ w ∷ [])) p ≡ true
+here_is_damaged looks ws w p u opaque none here =
+    let f : Win → Win = invalidated looks (looks.clip w) in
+    let seen : visible looks (windows_at looks (ws ++ w ∷ []) p) ≡ w ∷ [] = ap (visible looks) (windows_at-here looks ws w p here) ∙ visible-last looks (windows_at looks ws p) w opaque in
+    ap (list_any (is_invalid_at p)) (visible_at-map looks f (ws ++ w ∷ []) p u ∙ ap (map f) seen) ∙ rw (new_is_invalid looks w p none here) refl
+
+create_covers : (setup : Setup) (s : State) (w : Win) → IsRooted s.windows → w.invalid ≡ None → w.trans ≡ false → DamageCovers setup s → DamageCovers setup (after_create setup s w)
+create_covers setup s w rooted none opaque covers x y x_in y_in outside =
+    let p : Point = point_at (pos x) (pos y) in
+    let ws = s.windows in
+    let old = looks_of setup ws in
+    let looks = looks_of setup (ws ++ w ∷ []) in
+    let f : Win → Win = invalidated looks (looks.clip w) in
+    let now = map f (ws ++ w ∷ []) in
+    let u = unseen_invalid setup (ws ++ w ∷ []) looks (looks.clip w) in
+    let same = looks_of-same setup now (ws ++ w ∷ []) (places-invalidated looks (looks.clip w) (ws ++ w ∷ [])) in
+    let undamaged : is_damaged looks now p ≡ false = sym (ap (λ (k : Looks). is_damaged k now p) same) ∙ outside in
+    elim (cases_Bool (has (looks.clip w) p)) [
+      | inl here ↦ absurd (false_is_true (sym undamaged ∙ here_is_damaged looks ws w p u (rw opaque refl) none here))
+      | inr away ↦
+          let at : windows_at looks (ws ++ w ∷ []) p ≡ windows_at old ws p = windows_at-away looks ws w p away ∙ windows_at-agree old looks ws p (clips_agree setup ws w rooted) in
+          let before : is_damaged old ws p ≡ false = elim (cases_Bool (is_damaged old ws p)) [
+            | inl some ↦
+                let still : is_damaged looks (ws ++ w ∷ []) p ≡ true = ap (λ (vs : List Win). list_any (is_invalid_at p) (visible looks vs)) at ∙ some in
+                absurd (false_is_true (sym undamaged ∙ damaged-map looks f (ws ++ w ∷ []) p u (invalid_grows looks (looks.clip w) p) still))
+            | inr none ↦ none
+          ] in
+          covers x y x_in y_in before
+          ∙ sym (ap (λ (k : Looks). painted k now p) same ∙ painted-map looks f (ws ++ w ∷ []) p u ∙ ap (painted_over looks p 0) at)
+    ]
+
+-- ---- the opening
+
+on_axis : (last z : ℕ) → z < last → is_within (pos 0) ((pos 0 +ℤ pos last) -ℤ pos 1) (pos z) ≡ true
+unfolding is_within
+on_axis last z less = grind (arith, ints)
+
+on_side : (last z : ℕ) → z < last → is_within (pos 0) (pos last -ℤ pos 1) (pos z) ≡ true
+unfolding is_within
+on_side last z less = grind (arith, ints)
+
+on_screen : (setup : Setup) (x y : ℕ) → x < setup.width → y < setup.height → has (screen_of setup) (point_at (pos x) (pos y)) ≡ true
+unfolding has
+on_screen setup x y x_in y_in = rw (on_side setup.width x x_in, on_side setup.height y y_in) refl
+
+-- the desktop has all points of the screen
+desktop_has : (setup : Setup) (x y : ℕ) → x < setup.width → y < setup.height → has ((looks_of setup (opening setup).windows).clip (desktop_with setup.width setup.height (screen_of setup))) (point_at (pos x) (pos y)) ≡ true
+unfolding has
+desktop_has setup x y x_in y_in =
+    let q : Place = place_of (desktop_with setup.width setup.height (screen_of setup)) in
+    let frame : Rect = frame_of (point_at (pos 0) (pos 0)) q in
+    let in_frame : has frame (point_at (pos x) (pos y)) ≡ true = rw (on_axis setup.width x x_in, on_axis setup.height y y_in) refl in
+    has-meet frame (screen_of setup) (point_at (pos x) (pos y)) ∙ both_are (has frame (point_at (pos x) (pos y))) (has (screen_of setup) (point_at (pos x) (pos y))) in_frame (on_screen setup x y x_in y_in)
+
+opening_covers : (setup : Setup) → DamageCovers setup (opening setup)
+opening_covers setup x y x_in y_in outside =
+    absurd (false_is_true (sym outside ∙ rw (desktop_has setup x y x_in y_in, on_screen setup x y x_in y_in) refl))
+
+-- ---- all calls
+
+-- what holds after each call
+pub record Holds (setup : Setup) (s : State) : Type 0 where
+  pub rooted : IsRooted s.windows
+  pub covers : DamageCovers setup s
+  pub colours : ℕ → ℕ → ℕ
+  pub shown : s.shown ≡ picture_of setup.width setup.height colours
+
+children-places : (ws vs : List Win) → map place_of vs ≡ map place_of ws → AllByRecursion (λ w. w.parent ≡ 1) ws → AllByRecursion (λ w. w.parent ≡ 1) vs
+children-places ws [] e all = tt
+children-places [] (v ∷ vs) e all = absurd cc
+children-places (w ∷ ws) (v ∷ vs) e all =
+    let first : place_of v ≡ place_of w = ap (λ (qs : List Place). get_or qs 0 (place_of w)) e in
+    (ap (λ (q : Place). q.parent) first ∙ all.0, children-places ws vs (ap (drop 1) e) all.1)
+
+rooted-places : (ws vs : List Win) → map place_of vs ≡ map place_of ws → IsRooted ws → IsRooted vs
+rooted-places [] vs e rooted = absurd rooted
+rooted-places (d ∷ ws) [] e rooted = absurd cc
+rooted-places (d ∷ ws) (c ∷ vs) e rooted =
+    let first : place_of c ≡ place_of d = ap (λ (qs : List Place). get_or qs 0 (place_of d)) e in
+    (ap (λ (q : Place). q.handle) first ∙ rooted.0, ap (λ (q : Place). q.parent) first ∙ rooted.1, children-places ws vs (ap (drop 1) e) rooted.2)
+
+opening_holds : (setup : Setup) → Holds setup (opening setup)
+opening_holds setup = record { rooted = (refl, refl, tt); covers = opening_covers setup; colours = λ x y. 0; shown = refl }
+
+job_holds : (setup : Setup) (s : State) → Holds setup s → Holds setup (after_job setup s)
+job_holds setup s h = record {
+  rooted = rooted-places s.windows (windows_after_job s.windows) (places-job s.windows) h.rooted;
+  covers = job_covers setup s h.covers;
+  colours = colour_after_job (looks_of setup s.windows) s.windows s.shown;
+  shown = refl;
+}
+
+jobs_hold : (setup : Setup) (n : ℕ) (s : State) → Holds setup s → Holds setup (after_jobs setup n s)
+jobs_hold setup zero s h = h
+jobs_hold setup (suc n) s h = jobs_hold setup n (after_job setup s) (job_holds setup s h)
+
+rooted-push : (ws : List Win) (w : Win) → w.parent ≡ 1 → IsRooted ws → IsRooted (ws ++ w ∷ [])
+rooted-push [] w e rooted = absurd rooted
+rooted-push (desktop ∷ ws) w e rooted = (rooted.0, rooted.1, all-push (λ v. v.parent ≡ 1) ws w rooted.2 e)
+
+create_holds : (setup : Setup) (s : State) (x y : ℤ) (w h class : ℕ) (o : Option Refusal) → Holds setup s → Holds setup (created setup s (new_window s.next x y w h class) o).0
+create_holds setup s x y w h class (Some refusal) is = is
+create_holds setup s x y w h class None is =
+    let new = new_window s.next x y w h class in
+    let looks = looks_of setup (s.windows ++ new ∷ []) in
+    record {
+      rooted = rooted-places (s.windows ++ new ∷ []) (with_window setup s.windows new) (places-invalidated looks (looks.clip new) (s.windows ++ new ∷ [])) (rooted-push s.windows new refl is.rooted);
+      covers = create_covers setup s new is.rooted refl refl is.covers;
+      colours = is.colours;
+      shown = is.shown;
+    }
+
+step_holds : (setup : Setup) (s : State) (call : Call) → Holds setup s → Holds setup (step setup s call).0
+unfolding step
+step_holds setup s (Create x y w h class) is = create_holds setup s x y w h class (refusal_of_create setup s w h class) is
+step_holds setup s Exec is = jobs_hold setup (jobs_of s) s is
+step_holds setup s Scan is = is
+
+calls_hold : (setup : Setup) (s : State) (lines : List Line) → Holds setup s → Holds setup (state_after setup s lines)
+calls_hold setup s [] is = is
+calls_hold setup s (line ∷ lines) is = calls_hold setup (step setup s line.call).0 lines (step_holds setup s line.call is)
+
+pub all_hold : (setup : Setup) (lines : List Line) → Holds setup (state_after setup (opening setup) lines)
+all_hold setup lines = calls_hold setup (opening setup) lines (opening_holds setup)
+
+pub damage_covers : (setup : Setup) (lines : List Line) → DamageCovers setup (state_after setup (opening setup) lines)
+damage_covers setup lines = let h = all_hold setup lines in h.covers
+
+-- ---- where no window is invalid
+
+valid_is_no_damage : (looks : Looks) (ws : List Win) (p : Point) → NoneInvalid ws → is_damaged looks ws p ≡ false
+valid_is_no_damage looks [] p none = refl
+valid_is_no_damage looks (w ∷ ws) p none =
+    let parts = or_false (is_invalid w) (list_any is_invalid ws) none in
+    elim (cases_Bool (is_damaged looks (w ∷ ws) p)) [
+      | inl some ↦
+          elim (damaged-from looks w ws p some) [
+            | inl others ↦ absurd (false_is_true (sym (valid_is_no_damage looks ws p parts.1) ∙ others))
+            | inr own ↦ absurd (false_is_true (sym (not_invalid_at w.invalid p parts.0) ∙ own.2))
+          ]
+      | inr undamaged ↦ undamaged
+    ]
+
+pub shown_is_painter : (setup : Setup) (s : State) → Holds setup s → NoneInvalid s.windows → s.shown ≡ painter setup s.windows
+shown_is_painter setup s h none =
+    h.shown
+    ∙ picture_of-same setup.width setup.height h.colours (λ x y. painted (looks_of setup s.windows) s.windows (point_at (pos x) (pos y))) (λ x y x_in y_in.
+    sym (colour_at-picture setup.width setup.height h.colours x y x_in y_in)
+    ∙ ap (λ (shown : Picture). colour_at shown x y) (sym h.shown)
+    ∙ h.covers x y x_in y_in (valid_is_no_damage (looks_of setup s.windows) s.windows (point_at (pos x) (pos y)) none))
+
+-- ---- exec
+
+any_none : (ws : List Win) → AllByRecursion (λ v. is_invalid v ≡ false) ws → list_any is_invalid ws ≡ false
+any_none [] all = refl
+any_none (w ∷ ws) all = rw (all.0, any_none ws all.1) refl
+
+no_more_jobs : (setup : Setup) (s : State) (o : Option ℕ) → position is_invalid s.windows ≡ o → jobs_of s ≡ 0 → NoneInvalid s.windows
+no_more_jobs setup s None is e = any_none s.windows (none_invalid s.windows is)
+no_more_jobs setup s (Some which) is e = let more = jobs-step setup s which is in absurd (omega arith)
+
+one_job_less : (setup : Setup) (n : ℕ) (s : State) (o : Option ℕ) → position is_invalid s.windows ≡ o → jobs_of s ≡ suc n → jobs_of (after_job setup s) ≡ n
+one_job_less setup n s None is e = let none = no_jobs s.windows is in absurd (omega arith)
+one_job_less setup n s (Some which) is e = let more = jobs-step setup s which is in omega arith
+
+-- after as many jobs as there are invalid windows none is invalid
+pub jobs_end : (setup : Setup) (n : ℕ) (s : State) → jobs_of s ≡ n → NoneInvalid (after_jobs setup n s).windows
+jobs_end setup zero s e = no_more_jobs setup s (position is_invalid s.windows) refl e
+jobs_end setup (suc n) s e = jobs_end setup n (after_job setup s) (one_job_less setup n s (position is_invalid s.windows) refl e)
+
+pub exec_ends : (setup : Setup) (s : State) → NoneInvalid (step setup s Exec).0.windows
+unfolding step
+exec_ends setup s = jobs_end setup (jobs_of s) s refl
+
+-- ---- scans
+
+replies-append : (setup : Setup) (s : State) (front rest : List Line) → replies setup s (front ++ rest) ≡ replies setup s front ++ replies setup (state_after setup s front) rest
+replies-append setup s [] rest = refl
+replies-append setup s (line ∷ front) rest =
+    let now = step setup s line.call in
+    let text = reply_text line.call now.1 now.0.shown in
+    ap (λ (after : List ℕ). text ++ after) (replies-append setup now.0 front rest) ∙ sym (append_assoc text (replies setup now.0 front) (replies setup (state_after setup now.0 front) rest))
+
+scan_reply : (setup : Setup) (s : State) (call : Call) → call ≡ Scan → reply_text call (step setup s call).1 (step setup s call).0.shown ≡ frame_text s.shown
+unfolding step
+scan_reply setup s call e = ap (λ (c : Call). reply_text c (step setup s c).1 (step setup s c).0.shown) e
+
+pub scans_show : (script : Script) → ScansShowPainter script
+scans_show script front rest line e scan none =
+    let setup = setup_for script in
+    let s = before_line script front in
+    let now = step setup s line.call in
+    let head = replies setup (opening setup) front in
+    let tail = replies setup now.0 rest in
+    let last = summary_of setup (opening setup) script.lines in
+    let shown : s.shown ≡ painter setup s.windows = shown_is_painter setup s (all_hold setup front) none in
+    let frame : reply_text line.call now.1 now.0.shown ≡ frame_text (painter setup s.windows) = scan_reply setup s line.call scan ∙ ap frame_text shown in (
+      tail ++ last,
+      ap (λ (lines : List Line). replies setup (opening setup) lines ++ last) e
+          ∙ ap (λ (text : List ℕ). text ++ last) (replies-append setup (opening setup) front (line ∷ rest))
+          ∙ append_assoc head (replies setup s (line ∷ rest)) last
+          ∙ ap (λ (text : List ℕ). head ++ text) (ap (λ (text : List ℕ). (text ++ tail) ++ last) frame ∙ append_assoc (frame_text (painter setup s.windows)) tail last),
+    )

@@ -1,0 +1,235 @@
+-- Windows at a point: what changes that their looks don't show leave, and a window more.
+use Rattle.std.proofs.Common.{◌≡◌, ℕ, zero, suc, ◌+◌, ◌<◌, Bool, true, false, cond, ◌||◌, List, [], ◌∷◌, ◌++◌, length, map, get_or, drop, Option, None, refl, sym, ap, subst, ◌∙◌, inl, inr, arith}
+use Rattle.std.specs.Prelude.{◌⊎◌, unwrap_or}
+use Rattle.std.specs.List.{list_any, AllByRecursion}
+use Rattle.std.proofs.lemmas.Bool.{cases_Bool}
+use Rattle.std.proofs.lemmas.List.{append-nil, at_drop_more, get_or-map}
+use Rattle.std.proofs.lemmas.List.Elements.{filter-append}
+use Rattle.gfx_base.specs.declared.point.Point.{Point}
+use Rattle.gfx_base.specs.declared.rect.Rect.{Rect}
+use Rattle.gfx_base.specs.Rects.{has, is_empty, meet}
+use Rattle.scene.specs.declared.win.Win.{Win}
+use Rattle.scene.specs.Places.{Place, place_of}
+use Rattle.scene.specs.Clips.{deepest_level, clip_of, clip_in}
+use Rattle.scene.specs.Painting.{Looks, windows_at, hides_behind, visible, painted_over, painted}
+use Rattle.scene.specs.Damage.{is_invalid_at, is_damaged, with_invalid, invalidated}
+use Rattle.scene.proofs.PlaceLemmas.{place_at-same}
+use Rattle.mtgui_top.specs.Setups.{Setup, screen_of}
+use Rattle.mtgui_top.specs.Looks.{looks_of, is_opaque, colour_in_window}
+use Rattle.mtgui_top.specs.Machines.{IsPlain, ArePlain}
+
+-- ---- changes that the looks don't show
+
+pub record Unseen (looks : Looks) (f : Win → Win) : Type 0 where
+  pub clip : (w : Win) → looks.clip (f w) ≡ looks.clip w
+  pub opaque : (w : Win) → looks.is_opaque (f w) ≡ looks.is_opaque w
+  pub paint : (w : Win) (p : Point) (behind : ℕ) → looks.paint (f w) p behind ≡ looks.paint w p behind
+
+pub windows_at-map : (looks : Looks) (f : Win → Win) (ws : List Win) (p : Point) → Unseen looks f → windows_at looks (map f ws) p ≡ map f (windows_at looks ws p)
+windows_at-map looks f [] p u = refl
+windows_at-map looks f (w ∷ ws) p u =
+    elim (cases_Bool (has (looks.clip w) p)) [
+      | inl here ↦ rw (u.clip w, here) (ap (λ (vs : List Win). f w ∷ vs) (windows_at-map looks f ws p u))
+      | inr away ↦ rw (u.clip w, away) (windows_at-map looks f ws p u)
+    ]
+
+hides_behind-map : (looks : Looks) (f : Win → Win) (ws : List Win) → Unseen looks f → hides_behind looks (map f ws) ≡ hides_behind looks ws
+hides_behind-map looks f [] u = refl
+hides_behind-map looks f (w ∷ ws) u = rw (u.opaque w, hides_behind-map looks f ws u) refl
+
+visible-map : (looks : Looks) (f : Win → Win) (ws : List Win) → Unseen looks f → visible looks (map f ws) ≡ map f (visible looks ws)
+visible-map looks f [] u = refl
+visible-map looks f (w ∷ ws) u =
+    elim (cases_Bool (hides_behind looks ws)) [
+      | inl hidden ↦ rw (hides_behind-map looks f ws u, hidden) (visible-map looks f ws u)
+      | inr seen ↦ rw (hides_behind-map looks f ws u, seen) refl
+    ]
+
+painted_over-map : (looks : Looks) (f : Win → Win) (p : Point) (behind : ℕ) (ws : List Win) → Unseen looks f → painted_over looks p behind (map f ws) ≡ painted_over looks p behind ws
+painted_over-map looks f p behind [] u = refl
+painted_over-map looks f p behind (w ∷ ws) u = ap (λ (c : ℕ). painted_over looks p c (map f ws)) (u.paint w p behind) ∙ painted_over-map looks f p (looks.paint w p behind) ws u
+
+pub painted-map : (looks : Looks) (f : Win → Win) (ws : List Win) (p : Point) → Unseen looks f → painted looks (map f ws) p ≡ painted looks ws p
+painted-map looks f ws p u = ap (painted_over looks p 0) (windows_at-map looks f ws p u) ∙ painted_over-map looks f p 0 (windows_at looks ws p) u
+
+pub or_true : (b : Bool) → (b || true) ≡ true
+or_true true = refl
+or_true false = refl
+
+any-grows : (f : Win → Win) (p : Point) (ws : List Win) → ((w : Win) → is_invalid_at p w ≡ true → is_invalid_at p (f w) ≡ true) → list_any (is_invalid_at p) ws ≡ true → list_any (is_invalid_at p) (map f ws) ≡ true
+any-grows f p [] grows some = some
+any-grows f p (w ∷ ws) grows some =
+    elim (cases_Bool (is_invalid_at p w)) [
+      | inl here ↦ rw (grows w here) refl
+      | inr other ↦ rw (any-grows f p ws grows (rw other at some)) (or_true (is_invalid_at p (f w)))
+    ]
+
+pub visible_at-map : (looks : Looks) (f : Win → Win) (ws : List Win) (p : Point) → Unseen looks f → visible looks (windows_at looks (map f ws) p) ≡ map f (visible looks (windows_at looks ws p))
+visible_at-map looks f ws p u = ap (visible looks) (windows_at-map looks f ws p u) ∙ visible-map looks f (windows_at looks ws p) u
+
+pub damaged-map : (looks : Looks) (f : Win → Win) (ws : List Win) (p : Point) → Unseen looks f → ((w : Win) → is_invalid_at p w ≡ true → is_invalid_at p (f w) ≡ true) → is_damaged looks ws p ≡ true → is_damaged looks (map f ws) p ≡ true
+damaged-map looks f ws p u grows some = ap (list_any (is_invalid_at p)) (visible_at-map looks f ws p u) ∙ any-grows f p (visible looks (windows_at looks ws p)) grows some
+
+-- ---- the looks
+
+abbrev looks_with : Setup → (ℕ → Option Place) → Looks
+looks_with setup found = record {
+  clip = λ w. clip_of deepest_level (screen_of setup) found (place_of w);
+  is_opaque = is_opaque;
+  paint = λ w p behind. unwrap_or (colour_in_window setup.classes w p) behind;
+}
+
+-- windows that lie where others lie look as they do
+pub looks_of-same : (setup : Setup) (ws vs : List Win) → map place_of ws ≡ map place_of vs → looks_of setup ws ≡ looks_of setup vs
+looks_of-same setup ws vs e = ap (looks_with setup) (place_at-same ws vs e)
+
+pub unseen_valid : (setup : Setup) (ws : List Win) → Unseen (looks_of setup ws) (λ w. with_invalid w None)
+unseen_valid setup ws = record { clip = λ w. refl; opaque = λ w. refl; paint = λ w p behind. refl }
+
+pub unseen_invalid : (setup : Setup) (ws : List Win) (looks : Looks) (r : Rect) → Unseen (looks_of setup ws) (invalidated looks r)
+unseen_invalid setup ws looks r = record {
+  clip = λ w. elim (cases_Bool (is_empty (meet r (looks.clip w)))) [ inl e ↦ rw e refl | inr e ↦ rw e refl ];
+  opaque = λ w. elim (cases_Bool (is_empty (meet r (looks.clip w)))) [ inl e ↦ rw e refl | inr e ↦ rw e refl ];
+  paint = λ w p behind. elim (cases_Bool (is_empty (meet r (looks.clip w)))) [ inl e ↦ rw e refl | inr e ↦ rw e refl ];
+}
+
+-- ---- visible windows
+
+pub or_false : (a b : Bool) → (a || b) ≡ false → (a ≡ false) × (b ≡ false)
+or_false true b e = absurd cc
+or_false false b e = (refl, e)
+
+-- where none of them hides what is behind it, all are visible
+visible-all : (looks : Looks) (ws : List Win) → hides_behind looks ws ≡ false → visible looks ws ≡ ws
+visible-all looks [] none = refl
+visible-all looks (w ∷ ws) none = let parts = or_false (looks.is_opaque w) (hides_behind looks ws) none in rw parts.1 refl
+
+-- a window behind the others takes no damage away
+pub damaged-cons : (looks : Looks) (w : Win) (ws : List Win) (p : Point) → is_damaged looks ws p ≡ true → is_damaged looks (w ∷ ws) p ≡ true
+damaged-cons looks w ws p some =
+    elim (cases_Bool (has (looks.clip w) p)) [
+      | inl here ↦
+          elim (cases_Bool (hides_behind looks (windows_at looks ws p))) [
+            | inl hidden ↦ rw (here, hidden) some
+            | inr seen ↦ rw (here, seen) (ap (λ (b : Bool). is_invalid_at p w || b) (sym (ap (list_any (is_invalid_at p)) (visible-all looks (windows_at looks ws p) seen)) ∙ some) ∙ or_true (is_invalid_at p w))
+          ]
+      | inr away ↦ rw away some
+    ]
+
+-- where the damage is with a window behind the others
+pub damaged-from : (looks : Looks) (w : Win) (ws : List Win) (p : Point) → is_damaged looks (w ∷ ws) p ≡ true
+    → (is_damaged looks ws p ≡ true) ⊎ ((has (looks.clip w) p ≡ true) × (hides_behind looks (windows_at looks ws p) ≡ false) × (is_invalid_at p w ≡ true))
+damaged-from looks w ws p some =
+    elim (cases_Bool (has (looks.clip w) p)) [
+      | inl here ↦
+          elim (cases_Bool (hides_behind looks (windows_at looks ws p))) [
+            | inl hidden ↦ inl (rw (here, hidden) at some)
+            | inr seen ↦
+                elim (cases_Bool (is_invalid_at p w)) [
+                  | inl invalid ↦ inr (here, seen, invalid)
+                  | inr valid ↦ inl (ap (list_any (is_invalid_at p)) (visible-all looks (windows_at looks ws p) seen) ∙ (rw (here, seen, valid) at some))
+                ]
+          ]
+      | inr away ↦ inl (rw away at some)
+    ]
+
+hides_behind-last : (looks : Looks) (ws : List Win) (w : Win) → looks.is_opaque w ≡ true → hides_behind looks (ws ++ w ∷ []) ≡ true
+hides_behind-last looks [] w opaque = rw opaque refl
+hides_behind-last looks (v ∷ ws) w opaque = rw (hides_behind-last looks ws w opaque) (or_true (looks.is_opaque v))
+
+-- an opaque window on top is the only one that is seen
+pub visible-last : (looks : Looks) (ws : List Win) (w : Win) → looks.is_opaque w ≡ true → visible looks (ws ++ w ∷ []) ≡ w ∷ []
+visible-last looks [] w opaque = refl
+visible-last looks (v ∷ ws) w opaque = rw (hides_behind-last looks ws w opaque) (visible-last looks ws w opaque)
+
+-- ---- a window on top
+
+pub windows_at-agree : (looks other : Looks) (ws : List Win) (p : Point) → AllByRecursion (λ w. other.clip w ≡ looks.clip w) ws → windows_at other ws p ≡ windows_at looks ws p
+windows_at-agree looks other [] p agree = refl
+windows_at-agree looks other (w ∷ ws) p agree =
+    elim (cases_Bool (has (looks.clip w) p)) [
+      | inl here ↦ rw (agree.0, here) (ap (λ (vs : List Win). w ∷ vs) (windows_at-agree looks other ws p agree.1))
+      | inr away ↦ rw (agree.0, away) (windows_at-agree looks other ws p agree.1)
+    ]
+
+last_away : (looks : Looks) (w : Win) (p : Point) → has (looks.clip w) p ≡ false → windows_at looks (w ∷ []) p ≡ []
+last_away looks w p away = rw away refl
+
+last_here : (looks : Looks) (w : Win) (p : Point) → has (looks.clip w) p ≡ true → windows_at looks (w ∷ []) p ≡ w ∷ []
+last_here looks w p here = rw here refl
+
+pub windows_at-away : (looks : Looks) (ws : List Win) (w : Win) (p : Point) → has (looks.clip w) p ≡ false → windows_at looks (ws ++ w ∷ []) p ≡ windows_at looks ws p
+windows_at-away looks ws w p away =
+    filter-append (λ w. has (looks.clip w) p) ws (w ∷ []) ∙ ap (λ (vs : List Win). windows_at looks ws p ++ vs) (last_away looks w p away) ∙ append-nil (windows_at looks ws p)
+
+pub windows_at-here : (looks : Looks) (ws : List Win) (w : Win) (p : Point) → has (looks.clip w) p ≡ true → windows_at looks (ws ++ w ∷ []) p ≡ windows_at looks ws p ++ w ∷ []
+windows_at-here looks ws w p here =
+    filter-append (λ w. has (looks.clip w) p) ws (w ∷ []) ∙ ap (λ (vs : List Win). windows_at looks ws p ++ vs) (last_here looks w p here)
+
+-- ---- the painter's colour
+
+-- what hides all behind it leaves the same colour over any
+hidden_colour : (looks : Looks) (ws : List Win) (p : Point) (a b : ℕ) → ((w : Win) (c d : ℕ) → looks.is_opaque w ≡ true → looks.paint w p c ≡ looks.paint w p d) → hides_behind looks ws ≡ true → painted_over looks p a ws ≡ painted_over looks p b ws
+hidden_colour looks [] p a b covers hidden = absurd (cc hidden)
+hidden_colour looks (w ∷ ws) p a b covers hidden =
+    elim (cases_Bool (looks.is_opaque w)) [
+      | inl opaque ↦ ap (λ (c : ℕ). painted_over looks p c ws) (covers w a b opaque)
+      | inr trans ↦ hidden_colour looks ws p (looks.paint w p a) (looks.paint w p b) covers (rw trans at hidden)
+    ]
+
+-- the painter's colour depends on the visible windows alone
+pub painted_over-visible : (looks : Looks) (ws : List Win) (p : Point) (behind : ℕ) → ((w : Win) (c d : ℕ) → looks.is_opaque w ≡ true → looks.paint w p c ≡ looks.paint w p d) → painted_over looks p behind ws ≡ painted_over looks p behind (visible looks ws)
+painted_over-visible looks [] p behind covers = refl
+painted_over-visible looks (w ∷ ws) p behind covers =
+    elim (cases_Bool (hides_behind looks ws)) [
+      | inl hidden ↦ rw hidden (hidden_colour looks ws p (looks.paint w p behind) behind covers hidden ∙ painted_over-visible looks ws p behind covers)
+      | inr seen ↦ rw seen refl
+    ]
+
+opaque_paint : (setup : Setup) (ws : List Win) (w : Win) (p : Point) (c d : ℕ) → is_opaque w ≡ true → (looks_of setup ws).paint w p c ≡ (looks_of setup ws).paint w p d
+opaque_paint setup ws w p c d opaque = rw opaque refl
+
+pub painted-visible : (setup : Setup) (ws : List Win) (p : Point) → painted (looks_of setup ws) ws p ≡ painted_over (looks_of setup ws) p 0 (visible (looks_of setup ws) (windows_at (looks_of setup ws) ws p))
+painted-visible setup ws p = painted_over-visible (looks_of setup ws) (windows_at (looks_of setup ws) ws p) p 0 (λ w c d opaque. opaque_paint setup ws w p c d opaque)
+
+-- ---- asking window by window
+
+-- the painter's colour, one window further
+pub painted_over-more : (looks : Looks) (ws : List Win) (i : ℕ) (d : Win) (p : Point) (colour : ℕ) → i < length ws
+    → painted_over looks p colour (windows_at looks (drop i ws) p) ≡ painted_over looks p (cond (has (looks.clip (get_or ws i d)) p) (looks.paint (get_or ws i d) p colour) colour) (windows_at looks (drop (i + 1) ws) p)
+painted_over-more looks ws i d p colour lt =
+    at_drop_more (λ (vs : List Win). painted_over looks p colour (windows_at looks vs p)) ws i d lt
+    ∙ elim (cases_Bool (has (looks.clip (get_or ws i d)) p)) [
+      | inl here ↦ rw here refl
+      | inr away ↦ rw away refl
+    ]
+
+-- the same where the clips are kept beside the windows
+pub painted_over-clips : (setup : Setup) (ws : List Win) (clips : List Rect) (i : ℕ) (d : Win) (r : Rect) (p : Point) (colour now : ℕ) → i < length ws → clips ≡ map (clip_in (screen_of setup) ws) ws
+    → now ≡ cond (has (get_or clips i r) p) ((looks_of setup ws).paint (get_or ws i d) p colour) colour
+    → painted_over (looks_of setup ws) p now (windows_at (looks_of setup ws) (drop (i + 1) ws) p) ≡ painted_over (looks_of setup ws) p colour (windows_at (looks_of setup ws) (drop i ws) p)
+painted_over-clips setup ws clips i d r p colour now lt are is =
+    let clip : get_or clips i r ≡ clip_in (screen_of setup) ws (get_or ws i d) = ap (λ (rs : List Rect). get_or rs i r) are ∙ get_or-map (clip_in (screen_of setup) ws) ws i d r lt in
+    ap (λ (c : ℕ). painted_over (looks_of setup ws) p c (windows_at (looks_of setup ws) (drop (i + 1) ws) p)) (is ∙ ap (λ (c : Rect). cond (has c p) ((looks_of setup ws).paint (get_or ws i d) p colour) colour) clip)
+    ∙ sym (painted_over-more (looks_of setup ws) ws i d p colour lt)
+
+all-at : {X : Type 0} (P : X → Type 0) (xs : List X) (i : ℕ) (d : X) → AllByRecursion P xs → i < length xs → P (get_or xs i d)
+all-at P [] i d all lt = absurd (omega arith)
+all-at P (x ∷ xs) zero d all lt = all.0
+all-at P (x ∷ xs) (suc i) d all lt = all-at P xs i d all.1 (omega arith)
+
+opaque_colour : (setup : Setup) (ws : List Win) (w : Win) (p : Point) (behind : ℕ) → w.trans ≡ false → (looks_of setup ws).paint w p behind ≡ get_or setup.classes w.class 0
+opaque_colour setup ws w p behind opaque = rw opaque refl
+
+any_default : (xs : List ℕ) (i d e : ℕ) → i < length xs → get_or xs i d ≡ get_or xs i e
+any_default [] i d e lt = absurd (omega arith)
+any_default (x ∷ xs) zero d e lt = refl
+any_default (x ∷ xs) (suc i) d e lt = any_default xs i d e (omega arith)
+
+-- an opaque window's colour is its class's
+pub class_colour : (setup : Setup) (ws : List Win) (i class : ℕ) (w : Win) (p : Point) (behind now : ℕ) → ArePlain setup.classes ws → i < length ws → class ≡ (get_or ws i w).class → now ≡ get_or setup.classes class now
+    → now ≡ (looks_of setup ws).paint (get_or ws i w) p behind
+class_colour setup ws i class w p behind now plain lt is found =
+    let is_plain = all-at (IsPlain setup.classes) ws i w plain lt in
+    let known : class < length setup.classes = subst (λ (n : ℕ). n < length setup.classes) (sym is) is_plain.1 in
+    found ∙ any_default setup.classes class now 0 known ∙ ap (λ (n : ℕ). get_or setup.classes n 0) is ∙ sym (opaque_colour setup ws (get_or ws i w) p behind is_plain.0)

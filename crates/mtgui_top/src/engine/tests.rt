@@ -1,0 +1,161 @@
+//! The picture after each `exec`, held against the painter's, which is told by asking each point.
+
+ghost use Rattle.std.specs.Prelude.{◌≡◌, ◌<◌, vec_len, IfOk};
+ghost use Rattle.scene.specs.Painting.{painted};
+ghost use Rattle.mtgui_top.specs.Looks.{looks_of};
+ghost use Rattle.mtgui_top.specs.Machines.{setup_of, clips_of, ArePlain};
+
+use super::Engine;
+use crate::line::Call;
+use crate::picture::Picture;
+use crate::reply::Reply;
+use gfx_base::{Colour, Point, Rect};
+use scene::Win;
+use std::alloc::Global;
+use std::test::*;
+
+/// The painter's colour at a point: from the back, each window there paints over what is behind it.
+fn painter_colour(
+    windows: &[Win],
+    clips: &[Rect],
+    classes: &[Colour],
+    shown: &Picture,
+    p: Point,
+) -> Colour
+    requires clips { clips.now ≡ clips_of (setup_of shown.now classes.now) windows.now }
+    requires plain { ArePlain classes.now windows.now }
+    ensures { result ≡ painted (looks_of (setup_of shown.now classes.now) windows.now) windows.now p }
+{
+    let mut colour = Colour::default();
+    for i in 0..windows.len() {
+        if clips[i].has(p) {
+            colour = classes[usize::from(windows[i].class)];
+        }
+    }
+    colour
+}
+
+impl Engine {
+    /// Whether the shown picture is the painter's at each point.
+    fn shows_the_painter(&self) -> bool {
+        for y in 0..self.shown.height() {
+            for x in 0..self.shown.width() {
+                let p = Point {
+                    x: i32::from(x),
+                    y: i32::from(y),
+                };
+                let painted = painter_colour(
+                    &self.windows,
+                    &self.clips,
+                    &self.classes,
+                    &self.shown,
+                    p,
+                );
+                if self.shown.row(y)[usize::from(x)] != painted {
+                    return false;
+                }
+            }
+        }
+        true
+    }
+}
+
+fn colour(value: u32) -> Colour {
+    Colour::new(value).unwrap_or_default()
+}
+
+fn classes(alloc: Global) -> Result<Vec<Colour>, Fail>
+    ensures { IfOk result (λ classes. 0 < vec_len classes) }
+{
+    let colours = [colour(1), colour(0xFF), colour(0xFF00), colour(0xFF_0000)];
+    Ok(Vec::from_slice(alloc, &colours)?)
+}
+
+fn create(x: i16, y: i16, w: u16, h: u16, class: u8) -> Call {
+    Call::Create { x, y, w, h, class }
+}
+
+#[test]
+fn windows_over_windows(rt: HostRuntime) -> Result<(), Fail> {
+    let rows = [
+        ("overlapping", create(1, 1, 4, 3, 1), create(3, 2, 4, 3, 2)),
+        (
+            "partly hidden",
+            create(0, 0, 8, 2, 1),
+            create(2, 0, 2, 4, 2),
+        ),
+        (
+            "wholly hidden",
+            create(2, 1, 2, 2, 1),
+            create(1, 0, 4, 4, 2),
+        ),
+        (
+            "on the same place",
+            create(2, 1, 3, 2, 1),
+            create(2, 1, 3, 2, 2),
+        ),
+        ("side by side", create(0, 0, 3, 6, 1), create(3, 0, 3, 6, 2)),
+        (
+            "touching at a corner",
+            create(0, 0, 3, 3, 1),
+            create(3, 3, 3, 3, 2),
+        ),
+        (
+            "off the screen",
+            create(-5, 1, 5, 2, 1),
+            create(8, 0, 3, 3, 2),
+        ),
+        (
+            "over two edges",
+            create(-2, -2, 4, 4, 1),
+            create(6, 4, 9, 9, 2),
+        ),
+        (
+            "of the screen's size",
+            create(0, 0, 8, 6, 1),
+            create(1, 1, 1, 1, 2),
+        ),
+        (
+            "larger than it",
+            create(-9, -9, 4096, 4096, 1),
+            create(0, 0, 8, 6, 2),
+        ),
+        ("one refused", create(0, 0, 0, 1, 1), create(5, 5, 4, 4, 3)),
+    ];
+    for (name, first, second) in rows {
+        let mut engine = Engine::open(rt.alloc(), 8, 6, classes(rt.alloc())?)?;
+        engine.apply(&first);
+        engine.apply(&Call::Exec);
+        assert!(rt; engine.shows_the_painter(), "{name}: the first");
+        engine.apply(&second);
+        engine.apply(&Call::Exec);
+        assert!(rt; engine.shows_the_painter(), "{name}: the second");
+        engine.apply(&create(2, 0, 2, 6, 3));
+        engine.apply(&first);
+        engine.apply(&Call::Exec);
+        assert!(rt; engine.shows_the_painter(), "{name}: all");
+        assert!(rt;
+            engine.apply(&Call::Exec) == Reply::Jobs(0),
+            "{name}: again"
+        );
+    }
+    Ok(())
+}
+
+#[test]
+fn as_many_windows_as_there_can_be_on_the_largest_screen(rt: HostRuntime) -> Result<(), Fail> {
+    let mut engine = Engine::open(rt.alloc(), 1024, 768, classes(rt.alloc())?)?;
+    let mut x = -60;
+    let mut y = -40;
+    let mut class = 1;
+    for _ in 0..255 {
+        engine.apply(&create(x, y, 90, 70, class));
+        x = if x > 1000 { -60 } else { x + 37 };
+        y = if y > 740 { -40 } else { y + 53 };
+        class = if class > 2 { 1 } else { class + 1 };
+    }
+    assert_eq!(rt; engine.window_count(), 256);
+    engine.apply(&Call::Exec);
+    assert!(rt; engine.shows_the_painter());
+    Ok(())
+}
