@@ -1,4 +1,5 @@
-//! What the definitions of the texts give: at some values by computation, and the room that a row's line needs.
+//! Laws of the definitions, each as the contract of a function that does nothing: texts at some values and of two scripts, the
+//! room that a row's line needs, what faults are, and that the damage covers every change of the picture.
 
 ghost use Rattle.std.specs.Prelude.{◌≡◌, ◌↔◌, ℕ, ◌*◌, ◌≤◌, List, pos, length, codes};
 ghost use Rattle.mtgui_top.specs.declared.fault.Fault.{Fault};
@@ -50,7 +51,7 @@ pub fn scripts_in_numbers()
     ensures spelled { text_lines refused_script ≡ refused_lines }
 {}
 
-/// Does nothing. A file has a fault just where it is no script, and no second one.
+/// Does nothing. A file has a fault just where it is no script, and has no second one.
 pub fn faults_are_first()
     ensures either { (file : List ℕ) → ((fault : Fault) × IsFault file fault) ↔ IsNoScript file }
     ensures one { (file : List ℕ) (a b : Fault) → IsFault file a → IsFault file b → a ≡ b }

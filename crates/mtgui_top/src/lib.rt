@@ -4,7 +4,7 @@
 mod colours;
 mod draft;
 mod engine;
-mod examples;
+pub mod examples;
 mod fault;
 mod fields;
 mod hex;
