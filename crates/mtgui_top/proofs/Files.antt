@@ -2,6 +2,7 @@
 use Rattle.std.proofs.Common.{◌≡◌, ℕ, List, take, Option, Result, Ok, Err, sym, subst, ◌∙◌, inl, inr}
 use Rattle.std.specs.Prelude.{String}
 use Rattle.std.specs.declared.alloc.Global.{Global}
+use Rattle.outside.specs.Faults.{Whole}
 use Rattle.outside.specs.Files.{File, IsFile, Gave}
 use Rattle.mtgui_top.specs.declared.fault.Fault.{Fault}
 use Rattle.mtgui_top.specs.declared.play.Stop.{Stop}
@@ -10,7 +11,7 @@ use Rattle.mtgui_top.specs.declared.play.Told.{Told}
 use Rattle.mtgui_top.specs.declared.play.Told.TheVariants as told
 use Rattle.mtgui_top.specs.Scripts.{Script, IsScript}
 use Rattle.mtgui_top.specs.Faults.{IsFault}
-use Rattle.mtgui_top.specs.Playing.{IsPlay}
+use Rattle.mtgui_top.specs.Playing.{IsPlay, play_text}
 use Rattle.mtgui_top.specs.Promises.{ScansShowPainter}
 use Rattle.mtgui_top.specs.Outcome.{IsTextOf, Shows, ShowsFile, Plays}
 use Rattle.mtgui_top.proofs.Scripts.{script_takes, script_again, script_of-take}
@@ -56,8 +57,8 @@ plays_text r files name bytes text r0 r1 failed before now old new e gave shows 
 
 -- a played script's scans
 pub scans_played : (r : Result Told Stop) (files : Option (List File)) (words : List (String Global)) (name : List ℕ) (r0 r1 : ℕ) (failed : Option (List ℕ)) (before now : ℕ) (old new : Option (List ℕ))
-    → r ≡ Ok told.Script → Plays r files name r0 r1 failed before now old new → IsPlay words name → (called file : List ℕ) × (script : Script) × IsPlay words called × IsFile files called file × IsScript file script × ScansShowPainter script
+    → r ≡ Ok told.Script → Plays r files name r0 r1 failed before now old new → IsPlay words name → (called file : List ℕ) × (script : Script) × IsPlay words called × IsFile files called file × IsScript file script × ScansShowPainter script × Whole before now old new (play_text script)
 scans_played r files words name r0 r1 failed before now old new e plays is =
     let shows = subst (λ (x : Result Told Stop). Plays x files name r0 r1 failed before now old new) e plays in
     let shown = shows.2 in
-    (name, shows.0, shown.0, is, shows.1, shown.1, scans_show shown.0)
+    (name, shows.0, shown.0, is, shows.1, shown.1, scans_show shown.0, shown.2)

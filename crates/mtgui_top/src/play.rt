@@ -189,7 +189,8 @@ pub fn plain_words<S: Store, K: Sink>(
     ensures played { result ≡ 0 → (name : List ℕ) × IsPlay words.now name
         × ShowsFile (Ok Told.Script) (S.files store.old) name (K.faults out.old) (K.faults out.new) (K.written out.old) (K.written out.new) }
     // At each scan at which no window waits to be painted, what was written is the painter's picture.
-    ensures scans { result ≡ 0 → (name file : List ℕ) × (script : Script) × IsPlay words.now name × IsFile (S.files store.old) name file × IsScript file script × ScansShowPainter script }
+    ensures scans { result ≡ 0 → (name file : List ℕ) × (script : Script) × IsPlay words.now name × IsFile (S.files store.old) name file × IsScript file script × ScansShowPainter script
+        × Whole (K.faults out.old) (K.faults out.new) (K.written out.old) (K.written out.new) (play_text script) }
     // The file is no script, and the line of its fault was written.
     ensures no_script { result ≡ 3 → (name : List ℕ) × IsPlay words.now name
         × ShowsFile (Ok Told.Fault) (S.files store.old) name (K.faults out.old) (K.faults out.new) (K.written out.old) (K.written out.new) }
