@@ -7,10 +7,10 @@ use Rattle.mtgui_top.specs.declared.draft.Stage.TheVariants as stage
 use Rattle.mtgui_top.specs.declared.fault.Reason.{Reason}
 use Rattle.mtgui_top.specs.declared.fault.Reason.TheVariants.{Ascii}
 use Rattle.mtgui_top.specs.declared.fault.Fault.{Fault}
-use Rattle.mtgui_top.specs.Parts.{is_printable, is_comment, without_comments}
+use Rattle.mtgui_top.specs.Comments.{is_printable, is_comment, without_comments}
 use Rattle.mtgui_top.specs.Scripts.{Script}
 use Rattle.mtgui_top.specs.Reading.{Draft, after_words, after_line, script_from, at_end, on_line, read_from}
-use Rattle.mtgui_top.proofs.Spellings.{chosen}
+use Rattle.spelling.proofs.Spellings.{chosen}
 
 abbrev pub done : {A E : Type 0} → A → Result A E
 done x = Ok x

@@ -21,7 +21,7 @@ use Rattle.mtgui_top.specs.declared.line.Call.{Call}
 use Rattle.mtgui_top.specs.declared.line.Call.TheVariants.{Create, Exec, Scan}
 use Rattle.mtgui_top.specs.declared.line.Line.{Line}
 use Rattle.mtgui_top.specs.declared.reply.Refusal.{Refusal}
-use Rattle.mtgui_top.specs.Pictures.{Picture, picture_of, colour_at}
+use Rattle.frame.specs.Pictures.{Picture, picture_of, colour_at}
 use Rattle.mtgui_top.specs.Setups.{Setup, screen_of}
 use Rattle.mtgui_top.specs.Looks.{looks_of}
 use Rattle.mtgui_top.specs.States.{State, desktop_with, opening, new_window, with_window, after_create, refusal_of_create, is_invalid, windows_after_job, is_in_job, colour_after_job, after_job, after_jobs, jobs_of, created, step, state_after}

@@ -13,7 +13,8 @@ use Rattle.mtgui_top.specs.declared.fault.Reason.TheVariants.{Ascii, End}
 use Rattle.mtgui_top.specs.declared.fault.Fault.{Fault}
 use Rattle.mtgui_top.specs.declared.fault.ReadError.{ReadError}
 use Rattle.mtgui_top.specs.declared.fault.ReadError.TheVariants.{Memory, Fault as Wrong}
-use Rattle.mtgui_top.specs.Parts.{lines_of, is_printable, is_comment, without_comments}
+use Rattle.spelling.specs.Parts.{lines_of}
+use Rattle.mtgui_top.specs.Comments.{is_printable, is_comment, without_comments}
 use Rattle.mtgui_top.specs.Scripts.{Script}
 use Rattle.mtgui_top.specs.Reading.{Draft, empty_draft, after_words, after_line, at_end, on_line, read_from, script_of}
 use Rattle.mtgui_top.specs.Faults.{reason_of, next_reason, reason_after, IsFirst, IsFault, IsError}

@@ -3,7 +3,7 @@ use Rattle.std.proofs.Common.{◌≡◌, ℕ, ◌+◌, ◌-◌, ◌<◌, ◌≤�
 use Rattle.std.proofs.lemmas.Bool.Decides.{nat_tests}
 use Rattle.std.proofs.lemmas.List.{drop_more, drop_all}
 use Rattle.std.proofs.lemmas.List.FromFn.{length-map-range_with_len, get_or-map-range_with_len}
-use Rattle.mtgui_top.specs.Pictures.{Picture, row_at, row_above, rows_of}
+use Rattle.frame.specs.Pictures.{Picture, row_at, row_above, rows_of}
 use Rattle.mtgui_top.specs.Texts.{row_line, row_lines, frame_header, frame_text}
 
 -- the lines from the row at y on

@@ -11,12 +11,13 @@ use Rattle.mtgui_top.specs.declared.draft.Stage.{Stage}
 use Rattle.mtgui_top.specs.declared.draft.Stage.TheVariants as stage
 use Rattle.mtgui_top.specs.declared.fault.Reason.{Reason}
 use Rattle.mtgui_top.specs.declared.fault.Reason.TheVariants.{Later, Late, Asset, Many}
-use Rattle.mtgui_top.specs.Digits.{hex_colour}
-use Rattle.mtgui_top.specs.Fields.{words_of, after_word, begins_with, screen_of, desktop_of, class_of, line_of}
+use Rattle.spelling.specs.Digits.{hex_colour}
+use Rattle.spelling.specs.Words.{words_of, after_word, begins_with}
+use Rattle.mtgui_top.specs.Fields.{screen_of, desktop_of, class_of, line_of}
 use Rattle.mtgui_top.specs.Later.{is_later_class}
 use Rattle.mtgui_top.specs.Reading.{Draft, after_value, header_reason, block_reason, after_opening, after_title, after_screen, after_buffers, after_desktop, after_block, after_class, after_other, after_call, after_body, after_words}
 use Rattle.mtgui_top.specs.Faults.{is_in_header, opens_class, last_opens_class, is_in_block, class_count, is_of_class, call_count, is_header_line, has_class, is_call_line, is_later_in_header}
-use Rattle.mtgui_top.proofs.Spellings.{named, after_word_takes, no_natural}
+use Rattle.spelling.proofs.Spellings.{named, after_word_takes, no_natural}
 use Rattle.mtgui_top.proofs.LineLaws.{screen_takes, desktop_takes, line_takes}
 use Rattle.mtgui_top.proofs.CommentLaws.{known}
 use Rattle.mtgui_top.proofs.ScriptsTaken.{tested_ok, taken_ok, opening_ok, class_ok}

@@ -16,7 +16,7 @@ use Rattle.scene.specs.declared.win.Win.{Win}
 use Rattle.scene.specs.Painting.{Looks, windows_at, hides_behind, painted, painted_over}
 use Rattle.scene.specs.Damage.{with_invalid, is_invalid_at}
 use Rattle.scene.proofs.PaintLemmas.{AllOpaque, hides_behind-opaque, painted-last}
-use Rattle.mtgui_top.specs.Pictures.{Picture, colour_at, picture_of}
+use Rattle.frame.specs.Pictures.{Picture, colour_at, picture_of, changed_points}
 use Rattle.mtgui_top.specs.States.{is_invalid, windows_after_job, is_in_job, colour_after_job, picture_after_job}
 use Rattle.mtgui_top.specs.Looks.{looks_of}
 use Rattle.mtgui_top.specs.Machines.{setup_of, clips_of, IsPlain, ArePlain}
@@ -83,7 +83,7 @@ colour_in_job looks before w after r colour old p valid invalid opaque paint =
 pub filled-job : (looks : Looks) (before : List Win) (w : Win) (after : List Win) (r : Rect) (colour : ℕ) (shown : Picture) → AllByRecursion (λ v. is_invalid v ≡ false) before → w.invalid ≡ Some r → AllOpaque looks after
     → ((p : Point) (behind : ℕ) → looks.paint w p behind ≡ colour)
     → filled (meet r (looks.clip w)) (map looks.clip after) colour shown ≡ picture_of shown.width shown.height (colour_after_job looks (before ++ w ∷ after) shown)
-unfolding filled
+unfolding changed_points
 filled-job looks before w after r colour shown valid invalid opaque paint =
     ap (picture_of shown.width shown.height) (fun_ext (λ x. fun_ext (λ y. colour_in_job looks before w after r colour (colour_at shown x y) (point_at (pos x) (pos y)) valid invalid opaque (paint (point_at (pos x) (pos y))))))
 

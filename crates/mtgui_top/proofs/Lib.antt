@@ -1,6 +1,3 @@
-pub mod Parts
-pub mod Numbers
-pub mod Spellings
 pub mod LineLaws
 pub mod CommentLaws
 pub mod ScriptsTaken
@@ -9,7 +6,6 @@ pub mod Scripts
 pub mod LineReasons
 pub mod Fronts
 pub mod FaultLaws
-pub mod MixedLemmas
 pub mod AreaLemmas
 pub mod FillLemmas
 pub mod Windows

@@ -7,12 +7,14 @@ use Rattle.std.proofs.lemmas.List.{append-nil}
 use Rattle.mtgui_top.specs.declared.line.Call.{Call}
 use Rattle.mtgui_top.specs.declared.line.Call.TheVariants.{Create, Exec, Scan}
 use Rattle.mtgui_top.specs.declared.line.Line.{Line}
-use Rattle.mtgui_top.specs.Digits.{hex_colour}
-use Rattle.mtgui_top.specs.Spelling.{text_of_words, words_of_call, text_of_line}
+use Rattle.spelling.specs.Digits.{hex_colour}
+use Rattle.spelling.specs.Words.{text_of_words}
+use Rattle.mtgui_top.specs.Spelling.{words_of_call, text_of_line}
 use Rattle.mtgui_top.specs.Scripts.{CallFits, LineFits}
-use Rattle.mtgui_top.specs.Fields.{words_of, first_word, after_word, number_at, natural_at, colour_of, screen_of, desktop_of, class_of, create_at, call_at, line_of}
-use Rattle.mtgui_top.proofs.Parts.{IsWhole, parts-join}
-use Rattle.mtgui_top.proofs.Spellings.{bind_some, chosen, some_is, onto, word_takes, named, after_word_takes, nothing_left, number_at_takes, number_at_again, natural_at_takes, natural_at_again, colour_takes, colour_again, whole_by_test, natural_whole, number_whole, colour_whole}
+use Rattle.spelling.specs.Words.{words_of, first_word, after_word, number_at, natural_at, colour_of}
+use Rattle.mtgui_top.specs.Fields.{screen_of, desktop_of, class_of, create_at, call_at, line_of}
+use Rattle.spelling.proofs.Parts.{IsWhole, parts-join}
+use Rattle.spelling.proofs.Spellings.{bind_some, chosen, some_is, onto, word_takes, named, after_word_takes, nothing_left, number_at_takes, number_at_again, natural_at_takes, natural_at_again, colour_takes, colour_again, whole_by_test, natural_whole, number_whole, colour_whole}
 
 -- ---- the header
 

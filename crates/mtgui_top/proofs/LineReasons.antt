@@ -8,14 +8,15 @@ use Rattle.mtgui_top.specs.declared.line.Call.TheVariants.{Create, Exec, Scan}
 use Rattle.mtgui_top.specs.declared.fault.Reason.{Reason}
 use Rattle.mtgui_top.specs.declared.fault.Reason.TheVariants.{Later, Header, Block, Late, Asset, Many}
 use Rattle.mtgui_top.specs.declared.fault.Reason.TheVariants.{Call as NoCall}
-use Rattle.mtgui_top.specs.Parts.{is_printable, is_comment}
+use Rattle.mtgui_top.specs.Comments.{is_printable, is_comment}
 use Rattle.mtgui_top.specs.Spelling.{words_of_call}
 use Rattle.mtgui_top.specs.Scripts.{LineFits}
-use Rattle.mtgui_top.specs.Fields.{words_of, after_word, begins_with, natural_in, class_of, line_of}
+use Rattle.spelling.specs.Words.{words_of, after_word, begins_with, natural_in}
+use Rattle.mtgui_top.specs.Fields.{class_of, line_of}
 use Rattle.mtgui_top.specs.Later.{is_one_of, begins_with_one_of, later_words, later_in_block, later_calls, is_later_class, is_later_call}
 use Rattle.mtgui_top.specs.Reading.{header_reason, block_reason, call_reason}
 use Rattle.mtgui_top.specs.Faults.{is_in_header, opens_class, last_opens_class, class_count, call_count, is_header_line, has_class, fields_open_class, is_call_line, is_later_in_header, is_later_elsewhere, holds, reason_of}
-use Rattle.mtgui_top.proofs.Spellings.{named, no_natural, no_natural_in, natural_in_again}
+use Rattle.spelling.proofs.Spellings.{named, no_natural, no_natural_in, natural_in_again}
 use Rattle.mtgui_top.proofs.LineLaws.{line_words, line_takes, line_again}
 use Rattle.mtgui_top.proofs.ScriptsAgain.{no_line}
 use Rattle.mtgui_top.proofs.CommentLaws.{known}

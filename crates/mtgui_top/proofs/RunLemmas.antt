@@ -6,7 +6,7 @@ use Rattle.std.proofs.lemmas.Bool.Decides.{Decides-eqb, nat_tests}
 use Rattle.std.proofs.lemmas.Fmt.{length-decimal-le}
 use Rattle.std.proofs.lemmas.List.{append-nil}
 use Rattle.std.proofs.lemmas.List.Sums.{prefix_len-le-length}
-use Rattle.mtgui_top.specs.Digits.{hex_colour}
+use Rattle.spelling.specs.Digits.{hex_colour}
 use Rattle.mtgui_top.specs.Texts.{runs, run_text, points_line}
 
 -- the text of what is left of a row: nothing is written after the last point

@@ -4,7 +4,7 @@ use Rattle.std.specs.Prelude.{◌≡◌, codes}
 use Rattle.std.specs.Fmt.{digits}
 use Rattle.gfx_base.specs.Range.{is_within}
 use Rattle.gfx_base.specs.Rects.{has, is_empty, canonical, meet, cover, shift}
-use Rattle.mtgui_top.specs.Digits.{hex_colour}
+use Rattle.spelling.specs.Digits.{hex_colour}
 use Rattle.mtgui_top.specs.Texts.{run_text, points_line, frame_text}
 use Rattle.mtgui_top.specs.States.{step}
 use Rattle.mtgui_top.specs.Playing.{summary_of, play_text}

@@ -10,10 +10,11 @@ use Rattle.mtgui_top.specs.declared.fault.Reason.TheVariants.{TooLarge}
 use Rattle.mtgui_top.specs.declared.fault.Fault.{Fault}
 use Rattle.mtgui_top.specs.declared.fault.ReadError.{ReadError}
 use Rattle.mtgui_top.specs.declared.fault.ReadError.TheVariants.{Memory, Fault as Wrong}
-use Rattle.mtgui_top.specs.Parts.{lines_of, without_comments}
+use Rattle.spelling.specs.Parts.{lines_of}
+use Rattle.mtgui_top.specs.Comments.{without_comments}
 use Rattle.mtgui_top.specs.Scripts.{Script, Fits, IsScript, text_lines}
 use Rattle.mtgui_top.specs.Reading.{Draft, empty_draft, script_from, at_end, read_from, script_of, Says}
-use Rattle.mtgui_top.proofs.Spellings.{chosen}
+use Rattle.spelling.proofs.Spellings.{chosen}
 use Rattle.mtgui_top.proofs.CommentLaws.{done, ok_is, after_all, IsRead, read_takes, read_again}
 use Rattle.mtgui_top.proofs.ScriptsTaken.{IsBody, Spells, all_take, nothing_spelled}
 use Rattle.mtgui_top.proofs.ScriptsAgain.{body, all_again}

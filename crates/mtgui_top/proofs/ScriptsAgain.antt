@@ -7,11 +7,13 @@ use Rattle.std.proofs.lemmas.List.{append-nil, length-append}
 use Rattle.mtgui_top.specs.declared.line.Line.{Line}
 use Rattle.mtgui_top.specs.declared.draft.Stage.TheVariants as stage
 use Rattle.mtgui_top.specs.declared.fault.Reason.{Reason}
-use Rattle.mtgui_top.specs.Spelling.{text_of_words, header_lines, class_lines, colour_lines, text_of_line}
+use Rattle.spelling.specs.Words.{text_of_words}
+use Rattle.mtgui_top.specs.Spelling.{header_lines, class_lines, colour_lines, text_of_line}
 use Rattle.mtgui_top.specs.Scripts.{Script, Fits, LineFits, text_lines}
-use Rattle.mtgui_top.specs.Fields.{words_of, after_word, screen_of, desktop_of, line_of}
+use Rattle.spelling.specs.Words.{words_of, after_word}
+use Rattle.mtgui_top.specs.Fields.{screen_of, desktop_of, line_of}
 use Rattle.mtgui_top.specs.Reading.{Draft, empty_draft, after_title, after_screen, after_buffers, after_desktop, after_block, after_class, after_other, after_call, after_body, after_value, header_reason}
-use Rattle.mtgui_top.proofs.Spellings.{after_word_again, no_natural, colour_no_dash}
+use Rattle.spelling.proofs.Spellings.{after_word_again, no_natural, colour_no_dash}
 use Rattle.mtgui_top.proofs.LineLaws.{screen_words, IsScreen, screen_again, screen_words_whole, desktop_words, desktop_again, desktop_words_whole, class_fields, IsClass, class_again, class_words_whole, line_again, line_words_whole}
 use Rattle.mtgui_top.proofs.CommentLaws.{then_all, after_all}
 

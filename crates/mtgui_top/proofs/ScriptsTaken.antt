@@ -9,12 +9,14 @@ use Rattle.mtgui_top.specs.declared.draft.Stage.{Stage}
 use Rattle.mtgui_top.specs.declared.draft.Stage.TheVariants as stage
 use Rattle.mtgui_top.specs.declared.fault.Reason.{Reason}
 use Rattle.mtgui_top.specs.declared.fault.Reason.TheVariants.{Later, Late, Asset, Many}
-use Rattle.mtgui_top.specs.Spelling.{text_of_words, header_lines, class_lines, colour_lines, text_of_line}
+use Rattle.spelling.specs.Words.{text_of_words}
+use Rattle.mtgui_top.specs.Spelling.{header_lines, class_lines, colour_lines, text_of_line}
 use Rattle.mtgui_top.specs.Scripts.{Script, Fits, LineFits, text_lines}
-use Rattle.mtgui_top.specs.Fields.{words_of, after_word, screen_of, desktop_of, class_of, line_of}
+use Rattle.spelling.specs.Words.{words_of, after_word}
+use Rattle.mtgui_top.specs.Fields.{screen_of, desktop_of, class_of, line_of}
 use Rattle.mtgui_top.specs.Later.{is_later_class}
 use Rattle.mtgui_top.specs.Reading.{Draft, empty_draft, after_value, header_reason, block_reason, after_opening, after_title, after_screen, after_buffers, after_desktop, after_block, after_class, after_other, after_call, after_body, after_words, script_from}
-use Rattle.mtgui_top.proofs.Spellings.{chosen, named, after_word_takes, onto, line_from_words}
+use Rattle.spelling.proofs.Spellings.{chosen, named, after_word_takes, onto, line_from_words}
 use Rattle.mtgui_top.proofs.LineLaws.{screen_words, IsScreen, screen_takes, desktop_words, desktop_takes, class_fields, IsClass, class_takes, line_takes}
 use Rattle.mtgui_top.proofs.CommentLaws.{ok_is, taken_first, after_all}
 

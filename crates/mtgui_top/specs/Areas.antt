@@ -6,7 +6,7 @@ use Rattle.gfx_base.specs.declared.rect.Rect.{Rect}
 use Rattle.gfx_base.specs.Rects.{has, is_empty, meet, point_at}
 use Rattle.scene.specs.declared.win.Win.{Win}
 use Rattle.scene.specs.Damage.{grown, with_invalid}
-use Rattle.mtgui_top.specs.Pictures.{Picture, colour_at, picture_of}
+use Rattle.frame.specs.Pictures.{Picture, changed}
 
 -- the window with an area made invalid, as far as it lies in its clip
 abbrev pub invalidated_in : Rect → Rect → Win → Win
@@ -22,9 +22,13 @@ area_invalidated area (clip ∷ clips) (w ∷ ws) = invalidated_in clip area w �
 abbrev pub is_hidden : List Rect → Point → Bool
 is_hidden above p = list_any (λ clip. has clip p) above
 
--- the picture with a colour on the points of an area that nothing above hides
-unfoldable pub filled : Rect → List Rect → ℕ → Picture → Picture
-filled area above colour p = picture_of p.width p.height (λ x y. if has area (point_at (pos x) (pos y)) && not (is_hidden above (point_at (pos x) (pos y))) then colour else colour_at p x y)
+-- whether an area has the point, and nothing above hides it
+abbrev pub is_visible_in : Rect → List Rect → ℕ → ℕ → Bool
+is_visible_in area above x y = has area (point_at (pos x) (pos y)) && not (is_hidden above (point_at (pos x) (pos y)))
+
+-- the picture with a colour on those points
+abbrev pub filled : Rect → List Rect → ℕ → Picture → Picture
+filled area above colour p = changed p (is_visible_in area above) (λ x y. colour)
 
 -- the area lies on a screen of these sides
 pub record IsOn (width height : ℕ) (area : Rect) : Type 0 where

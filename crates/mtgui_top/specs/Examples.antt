@@ -1,6 +1,6 @@
 -- Small pictures, a row, and scripts.
 use Rattle.std.specs.Prelude.{ℕ, pos, List, [], ◌∷◌, ◌++◌, ◌&&◌, nat_le, nat_lt, replicate, codes, if◌then◌else◌}
-use Rattle.mtgui_top.specs.Pictures.{Picture, picture_of}
+use Rattle.frame.specs.Pictures.{Picture, picture_of}
 use Rattle.mtgui_top.specs.declared.line.Call.{Call}
 use Rattle.mtgui_top.specs.declared.line.Call.TheVariants.{Create, Exec, Scan}
 use Rattle.mtgui_top.specs.declared.line.Line.{Line}

@@ -6,8 +6,10 @@ use Rattle.mtgui_top.specs.declared.fault.Reason.TheVariants.{TooLarge, Ascii, L
 use Rattle.mtgui_top.specs.declared.fault.Fault.{Fault}
 use Rattle.mtgui_top.specs.declared.fault.ReadError.{ReadError}
 use Rattle.mtgui_top.specs.declared.fault.ReadError.TheVariants as read_error
-use Rattle.mtgui_top.specs.Parts.{lines_of, is_printable, is_comment, without_comments}
-use Rattle.mtgui_top.specs.Fields.{words_of, after_word, begins_with, natural_in, screen_of, desktop_of, class_of, line_of}
+use Rattle.spelling.specs.Parts.{lines_of}
+use Rattle.mtgui_top.specs.Comments.{is_printable, is_comment, without_comments}
+use Rattle.spelling.specs.Words.{words_of, after_word, begins_with, natural_in}
+use Rattle.mtgui_top.specs.Fields.{screen_of, desktop_of, class_of, line_of}
 use Rattle.mtgui_top.specs.Later.{is_one_of, begins_with_one_of, later_words, later_in_block, is_later_class, is_later_call}
 
 -- ---- where a line stands, by the lines before it that are no comments

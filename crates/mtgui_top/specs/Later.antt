@@ -1,7 +1,7 @@
 -- Forms of lines that aren't built yet, by the words that decide.
 use Rattle.std.specs.Prelude.{ℕ, Bool, false, not, List, [], ◌∷◌, if◌then◌else◌, bytes_eq, codes}
 use Rattle.std.specs.List.{list_any}
-use Rattle.mtgui_top.specs.Fields.{words_of, begins_with}
+use Rattle.spelling.specs.Words.{words_of, begins_with}
 
 -- the word is one of those in the text
 unfoldable pub is_one_of : List ℕ → List ℕ → Bool

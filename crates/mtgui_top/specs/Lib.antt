@@ -1,12 +1,10 @@
-pub mod Digits
-pub mod Parts
+pub mod Comments
 pub mod Fields
 pub mod Spelling
 pub mod Scripts
 pub mod Later
 pub mod Reading
 pub mod Faults
-pub mod Pictures
 pub mod Texts
 pub mod Setups
 pub mod Looks

@@ -4,7 +4,7 @@ use Rattle.std.specs.List.{AllByRecursion}
 use Rattle.gfx_base.specs.declared.rect.Rect.{Rect}
 use Rattle.scene.specs.declared.win.Win.{Win}
 use Rattle.scene.specs.Clips.{clip_in}
-use Rattle.mtgui_top.specs.Pictures.{Picture}
+use Rattle.frame.specs.Pictures.{Picture}
 use Rattle.mtgui_top.specs.Setups.{Setup, screen_of}
 use Rattle.mtgui_top.specs.declared.line.Call.{Call}
 use Rattle.mtgui_top.specs.declared.reply.Reply.{Reply}

@@ -7,7 +7,7 @@ use Rattle.scene.specs.Painting.{painted}
 use Rattle.scene.specs.Damage.{is_damaged}
 use Rattle.mtgui_top.specs.declared.line.Call.TheVariants.{Scan}
 use Rattle.mtgui_top.specs.declared.line.Line.{Line}
-use Rattle.mtgui_top.specs.Pictures.{Picture, picture_of, colour_at}
+use Rattle.frame.specs.Pictures.{Picture, picture_of, colour_at}
 use Rattle.mtgui_top.specs.Setups.{Setup}
 use Rattle.mtgui_top.specs.Looks.{looks_of}
 use Rattle.mtgui_top.specs.States.{State, opening, is_invalid, state_after}

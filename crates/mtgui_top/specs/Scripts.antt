@@ -5,7 +5,8 @@ use Rattle.std.specs.Int.{w16}
 use Rattle.mtgui_top.specs.declared.line.Call.{Call}
 use Rattle.mtgui_top.specs.declared.line.Call.TheVariants.{Create, Exec, Scan}
 use Rattle.mtgui_top.specs.declared.line.Line.{Line}
-use Rattle.mtgui_top.specs.Parts.{lines_of, is_printable, without_comments}
+use Rattle.spelling.specs.Parts.{lines_of}
+use Rattle.mtgui_top.specs.Comments.{is_printable, without_comments}
 use Rattle.mtgui_top.specs.Spelling.{header_lines, colour_lines, text_of_line}
 
 -- the screen's sides, the classes' back colours from the desktop's on, and the call lines

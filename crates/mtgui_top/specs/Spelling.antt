@@ -1,15 +1,11 @@
 -- The one spelling of each line of a script.
 use Rattle.std.specs.Prelude.{ℕ, ◌+◌, List, [], ◌∷◌, codes}
-use Rattle.std.specs.List.{join_with_byte}
 use Rattle.std.specs.Fmt.{decimal, signed_decimal}
-use Rattle.mtgui_top.specs.Digits.{hex_colour}
+use Rattle.spelling.specs.Digits.{hex_colour}
+use Rattle.spelling.specs.Words.{text_of_words}
 use Rattle.mtgui_top.specs.declared.line.Call.{Call}
 use Rattle.mtgui_top.specs.declared.line.Call.TheVariants.{Create, Exec, Scan}
 use Rattle.mtgui_top.specs.declared.line.Line.{Line}
-
--- a line: its words, parted by single spaces
-abbrev pub text_of_words : List (List ℕ) → List ℕ
-text_of_words words = join_with_byte 32 words
 
 -- the header's lines before the desktop's
 abbrev pub header_lines : ℕ → ℕ → List (List ℕ)

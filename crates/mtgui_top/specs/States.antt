@@ -16,7 +16,7 @@ use Rattle.mtgui_top.specs.declared.reply.Refusal.{Refusal}
 use Rattle.mtgui_top.specs.declared.reply.Refusal.TheVariants.{BadSize, NoClass, TooManyWindows}
 use Rattle.mtgui_top.specs.Setups.{Setup, screen_of}
 use Rattle.mtgui_top.specs.Looks.{looks_of}
-use Rattle.mtgui_top.specs.Pictures.{Picture, colour_at, picture_of}
+use Rattle.frame.specs.Pictures.{Picture, colour_at, picture_of}
 
 -- The windows from back to front, the handle of the next one, and the shown picture.
 pub record State : Type 0 where

@@ -1,14 +1,14 @@
 -- The texts that are written: a picture's, the answers to calls, the summary and a fault's line.
 use Rattle.std.specs.Prelude.{ℕ, ◌+◌, List, [], ◌∷◌, ◌++◌, map, Option, Some, None, ◌==◌, if◌then◌else◌, bytes_eq, codes, decimal}
 use Rattle.std.specs.List.{join_with_byte}
-use Rattle.mtgui_top.specs.Digits.{hex_colour}
+use Rattle.spelling.specs.Digits.{hex_colour}
 use Rattle.mtgui_top.specs.declared.line.Call.{Call}
 use Rattle.mtgui_top.specs.declared.line.Call.TheVariants.{Create, Exec, Scan}
 use Rattle.mtgui_top.specs.declared.reply.Refusal.{Refusal}
 use Rattle.mtgui_top.specs.declared.reply.Refusal.TheVariants.{BadSize, NoClass, TooManyWindows}
 use Rattle.mtgui_top.specs.declared.reply.Reply.{Reply}
 use Rattle.mtgui_top.specs.declared.reply.Reply.TheVariants.{Done, Handle, Jobs, Refused}
-use Rattle.mtgui_top.specs.Pictures.{Picture, rows_of}
+use Rattle.frame.specs.Pictures.{Picture, rows_of}
 
 -- the runs after a point before them: it belongs to the first run if that has its colour
 abbrev pub add_point : ℕ → List (ℕ × ℕ) → List (ℕ × ℕ)

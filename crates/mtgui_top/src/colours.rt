@@ -2,7 +2,7 @@
 
 ghost use Rattle.std.specs.Prelude.{◌≡◌, ◌+◌, ◌*◌, ◌≤◌, ◌<◌, ◌==◌, ◌++◌, length, if◌then◌else◌};
 ghost use Rattle.std.specs.List.{prefix_len};
-ghost use Rattle.mtgui_top.specs.Digits.{hex_digit, hex_byte, hex_colour};
+ghost use Rattle.spelling.specs.Digits.{hex_digit, hex_byte, hex_colour};
 ghost use Rattle.mtgui_top.specs.Texts.{run_text, points_line};
 ghost use Rattle.mtgui_top.specs.declared.room.TheConstants.{LINE_BYTES};
 
@@ -28,7 +28,7 @@ fn hex_byte(value: u8) -> [u8; 2]
 }
 
 /// Pushes a colour's six digits.
-#[tactic(auto, unfolding(crate::specs::Digits::hex_colour))]
+#[tactic(auto, unfolding(spelling::specs::Digits::hex_colour))]
 fn push_colour(room: &mut LineRoom, colour: Colour)
     requires { length room.old + 6 ≤ LINE_BYTES }
     ensures line { room.new ≡ room.old ++ hex_colour colour }

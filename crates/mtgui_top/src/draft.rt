@@ -2,7 +2,7 @@
 
 ghost use Rattle.std.specs.Prelude.{◌≡◌, IfOk};
 ghost use Rattle.mtgui_top.specs.declared.draft.Stage.TheVariants as stage;
-ghost use Rattle.mtgui_top.specs.Fields.{left};
+ghost use Rattle.spelling.specs.Words.{left};
 ghost use Rattle.mtgui_top.specs.Reading.{draft_of, empty_draft, script_from, after_title, after_screen, after_buffers, after_desktop, after_block, after_class, after_body, after_words, Takes};
 ghost use Rattle.mtgui_top.specs.Scripts.{Fits};
 
@@ -11,8 +11,8 @@ use crate::fields::{class, desktop, line, screen};
 use crate::line::Line;
 use crate::listing::Script;
 use crate::reasons::{block_reason, call_reason, header_reason, is_later_class};
-use crate::words::after_word;
 use gfx_base::Colour;
+use spelling::after_word;
 use std::alloc::{AllocError, Global};
 
 /// How many classes a script may have, with the desktop's.

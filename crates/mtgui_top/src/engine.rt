@@ -6,8 +6,8 @@ ghost use Rattle.mtgui_top.specs.States.{desktop_with, new_window, is_bad_size};
 
 use crate::line::Call;
 use crate::painting::{first_invalid, invalidate_area, paint_first, put_clips};
-use crate::picture::Picture;
 use crate::reply::{Refusal, Reply};
+use frame::Frame;
 use gfx_base::{Colour, Memory, Rect};
 use scene::{Stack, Win};
 use std::alloc::Global;
@@ -32,7 +32,7 @@ pub struct Engine {
     clips: Vec<Rect>,
     /// The handle of the next window.
     next: u32,
-    shown: Picture,
+    shown: Frame,
 }
 
 impl Model for Engine {
@@ -41,9 +41,9 @@ impl Model for Engine {
 
     ghost Value = { Machine };
 
-    ghost view = { λ e. record { setup = setup_of e.shown e.classes.items; state = record { windows = e.windows.items; next = e.next; shown = e.shown } } };
+    ghost view = { λ e. record { setup = setup_of e.shown.picture e.classes.items; state = record { windows = e.windows.items; next = e.next; shown = e.shown.picture } } };
 
-    ghost invariant = { λ e. IsSound (setup_of e.shown e.classes.items) (record { windows = e.windows.items; next = e.next; shown = e.shown }) e.screen e.clips.items (vec_capacity e.clips) };
+    ghost invariant = { λ e. IsSound (setup_of e.shown.picture e.classes.items) (record { windows = e.windows.items; next = e.next; shown = e.shown.picture }) e.screen e.clips.items (vec_capacity e.clips) };
 }
 
 fn desktop(width: u16, height: u16, screen: Rect) -> Win
@@ -113,7 +113,7 @@ impl Engine {
         requires classes { 0 < vec_len classes }
         ensures { IfOk result (λ engine. engine ≡ starting width height classes.items) }
     {
-        let shown = Picture::new(alloc, width, height)?;
+        let shown = Frame::new(alloc, width, height)?;
         let Ok(mut clips) = Vec::with_capacity(alloc, MOST_WINDOWS) else {
             return Err(Memory);
         };
@@ -131,8 +131,8 @@ impl Engine {
         })
     }
 
-    pub fn shown(&self) -> &Picture
-        ensures { result.now ≡ self.now.state.shown }
+    pub fn shown(&self) -> &Frame
+        ensures { result.now.picture ≡ self.now.state.shown }
     {
         &self.shown
     }

@@ -13,7 +13,7 @@ ghost use Rattle.mtgui_top.specs.Looks.{looks_of};
 ghost use Rattle.mtgui_top.specs.States.{State, opening, step, state_after};
 ghost use Rattle.mtgui_top.specs.Promises.{DamageCovers, NoneInvalid, ScansShowPainter};
 ghost use Rattle.mtgui_top.specs.Outcome.{IsNoScript};
-ghost use Rattle.mtgui_top.specs.Digits.{hex_colour};
+ghost use Rattle.spelling.specs.Digits.{hex_colour};
 ghost use Rattle.mtgui_top.specs.Texts.{points_line, frame_text, reply_text, summary_text, fault_text};
 ghost use Rattle.mtgui_top.specs.Scripts.{Script, text_lines};
 ghost use Rattle.mtgui_top.specs.Playing.{play_text};

@@ -1,12 +1,12 @@
 //! What the lines of a script spell: the screen's sides, colours, classes and calls.
 
 ghost use Rattle.std.specs.Prelude.{◌≡◌};
-ghost use Rattle.mtgui_top.specs.Fields.{Gives, left, words_of, screen_of, desktop_of, class_of, create_at, call_at, line_of};
+ghost use Rattle.spelling.specs.Words.{Gives, left, words_of};
+ghost use Rattle.mtgui_top.specs.Fields.{screen_of, desktop_of, class_of, create_at, call_at, line_of};
 
-use crate::hex::colour;
 use crate::line::{Call, Line};
-use crate::words::{after_word, is_done, natural_at, number_at, word_at};
 use gfx_base::Colour;
+use spelling::{after_word, colour, is_done, natural_at, number_at, word_at};
 
 /// The sides that `screen W H` spells.
 #[tactic(auto, unfolding(crate::specs::Fields::screen_of))]

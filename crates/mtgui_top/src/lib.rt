@@ -7,19 +7,15 @@ mod engine;
 pub mod examples;
 mod fault;
 mod fields;
-mod hex;
 mod line;
-mod lines;
 mod listing;
 mod painting;
-mod picture;
 mod play;
 mod reader;
 mod reasons;
 mod reply;
 mod room;
 mod texts;
-mod words;
 
 pub use play::plain_words;
 

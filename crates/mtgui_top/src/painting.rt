@@ -5,12 +5,11 @@ ghost use Rattle.std.specs.Prelude.{◌≡◌, ◌+◌, ◌<◌, ◌≤◌, ◌�
 ghost use Rattle.std.specs.List.{list_any};
 ghost use Rattle.gfx_base.specs.Rects.{has, is_empty, point_at};
 ghost use Rattle.scene.specs.Clips.{clip_in};
-ghost use Rattle.mtgui_top.specs.Pictures.{written};
 ghost use Rattle.mtgui_top.specs.States.{is_invalid, windows_after_job, picture_after_job};
 ghost use Rattle.mtgui_top.specs.Machines.{setup_of, clips_of, ArePlain};
 ghost use Rattle.mtgui_top.specs.Areas.{area_invalidated, invalidated_in, is_hidden, filled, IsOn, HasPoints};
 
-use crate::picture::Picture;
+use frame::Frame;
 use gfx_base::{Colour, Point, Rect};
 use scene::{Win, ground};
 
@@ -105,11 +104,11 @@ fn block_of(area: &Rect, width: u16, height: u16) -> Block
 }
 
 /// Gives the points of an area the colour, where no clip above has them.
-pub fn fill_visible(picture: &mut Picture, area: &Rect, above: &[Rect], colour: Colour)
-    requires { IsOn picture.old.width picture.old.height area.now }
-    ensures { picture.new ≡ filled area.now above.now colour picture.old }
+pub fn fill_visible(frame: &mut Frame, area: &Rect, above: &[Rect], colour: Colour)
+    requires { IsOn frame.old.picture.width frame.old.picture.height area.now }
+    ensures { frame.new.picture ≡ filled area.now above.now colour frame.old.picture }
 {
-    let block = block_of(area, picture.width(), picture.height());
+    let block = block_of(area, frame.width(), frame.height());
     for y in block.top..block.bottom {
         for x in block.left..block.right {
             let p = Point {
@@ -117,7 +116,7 @@ pub fn fill_visible(picture: &mut Picture, area: &Rect, above: &[Rect], colour: 
                 y: i32::from(y),
             };
             if !is_hidden(above, p) {
-                picture.put(x, y, colour);
+                frame.put(x, y, colour);
             }
         }
     }
@@ -130,13 +129,13 @@ pub fn paint_first(
     clips: &[Rect],
     classes: &[Colour],
     which: usize,
-    shown: &mut Picture,
+    shown: &mut Frame,
 )
     requires first { position is_invalid windows.old ≡ Some which }
-    requires clips { clips.now ≡ clips_of (setup_of shown.old classes.now) windows.old }
+    requires clips { clips.now ≡ clips_of (setup_of shown.old.picture classes.now) windows.old }
     requires plain { ArePlain classes.now windows.old }
     ensures windows { windows.new ≡ windows_after_job windows.old }
-    ensures shown { shown.new ≡ picture_after_job (setup_of shown.old classes.now) windows.old shown.old }
+    ensures shown { shown.new.picture ≡ picture_after_job (setup_of shown.old.picture classes.now) windows.old shown.old.picture }
 {
     let window = &mut windows[which];
     if let Some(invalid) = window.invalid.take() {

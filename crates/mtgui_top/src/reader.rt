@@ -2,15 +2,15 @@
 
 ghost use Rattle.std.specs.Prelude.{◌≡◌, Ok, Err, IfOk, IfErr, MatchResult};
 ghost use Rattle.mtgui_top.specs.declared.fault.ReadError.{ReadError};
-ghost use Rattle.mtgui_top.specs.Parts.{is_printable, is_comment};
+ghost use Rattle.mtgui_top.specs.Comments.{is_printable, is_comment};
 ghost use Rattle.mtgui_top.specs.Scripts.{Script, IsScript};
 ghost use Rattle.mtgui_top.specs.Faults.{IsError};
 ghost use Rattle.mtgui_top.specs.Reading.{draft_of, after_line, script_of, Takes, Says};
 
 use crate::draft::{Draft, Stage};
 use crate::fault::{Fault, LineError, ReadError, Reason};
-use crate::lines::first_line;
 use crate::listing::Script;
+use spelling::first_line;
 use std::alloc::Global;
 
 /// How many bytes a script's file may have.

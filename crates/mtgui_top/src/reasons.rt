@@ -1,12 +1,12 @@
 //! Reasons against lines, and the words of forms that this version doesn't build.
 
 ghost use Rattle.std.specs.Prelude.{◌≡◌};
-ghost use Rattle.mtgui_top.specs.Fields.{left, words_of};
+ghost use Rattle.spelling.specs.Words.{left, words_of};
 ghost use Rattle.mtgui_top.specs.Later.{is_one_of, is_later_class, is_later_call};
 ghost use Rattle.mtgui_top.specs.Reading.{header_reason, block_reason, call_reason};
 
 use crate::fault::Reason;
-use crate::words::{begins_with, natural_in, word_at};
+use spelling::{begins_with, natural_in, word_at};
 
 /// First words outside blocks.
 const LATER_WORDS: &[u8] = b"font bitmap string display viewer done";

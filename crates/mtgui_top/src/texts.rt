@@ -3,17 +3,21 @@
 ghost use Rattle.std.specs.Prelude.{◌≡◌, ◌+◌, ◌*◌, ◌<◌, ◌≤◌, ◌++◌, length, option_map, codes};
 ghost use Rattle.outside.specs.Faults.{Wrote};
 ghost use Rattle.mtgui_top.specs.declared.room.TheConstants.{LINE_BYTES};
-ghost use Rattle.mtgui_top.specs.Pictures.{row_at, row_above};
+ghost use Rattle.frame.specs.Pictures.{row_at, row_above};
 ghost use Rattle.mtgui_top.specs.Texts.{row_line, frame_header, frame_text, refusal_text, done_text, reply_text, summary_text, fault_text};
 
 use crate::colours::push_points;
 use crate::line::Call;
-use crate::picture::Picture;
 use crate::reply::{Refusal, Reply};
 use crate::room::LineRoom;
+use arrayvec::ArrayVec;
+use frame::Frame;
 use gfx_base::Colour;
 use itoa::Integer;
 use outside::{Sink, SinkFault};
+
+/// A row of a frame.
+type Row = ArrayVec<Colour, 1024>;
 
 /// Pushes a row's line, which tells whether the row above is the same.
 fn push_row(room: &mut LineRoom, above: Option<&[Colour]>, row: &[Colour])
@@ -32,32 +36,46 @@ fn push_row(room: &mut LineRoom, above: Option<&[Colour]>, row: &[Colour])
     }
 }
 
+/// The colours of the row at y, from the left.
+fn row_at(frame: &Frame, y: u16) -> Row
+    requires { y < frame.now.picture.height }
+    ensures value { result.items ≡ row_at frame.now.picture y }
+    ensures some { (1 ≤ length result.items) × (length result.items ≤ 1024) }
+{
+    let mut row = Row::new();
+    for x in 0..frame.width() {
+        row.push(frame.get(x, y));
+    }
+    row
+}
+
 fn write_row<K: Sink>(
     out: &mut K,
     room: &mut LineRoom,
-    picture: &Picture,
+    frame: &Frame,
     y: u16,
 ) -> Result<(), SinkFault>
-    requires { y < picture.now.height }
-    ensures { Wrote result (K.faults out.old) (K.faults out.new) (K.written out.old) (K.written out.new) (row_line (row_above picture.now y) (row_at picture.now y)) }
+    requires { y < frame.now.picture.height }
+    ensures { Wrote result (K.faults out.old) (K.faults out.new) (K.written out.old) (K.written out.new) (row_line (row_above frame.now.picture y) (row_at frame.now.picture y)) }
 {
     room.clear();
-    push_row(room, picture.row_above(y), picture.row(y));
+    let row = row_at(frame, y);
+    if y == 0 {
+        push_row(room, None, &row);
+    } else {
+        push_row(room, Some(&row_at(frame, y - 1)), &row);
+    }
     out.write(room.line())
 }
 
-fn write_header<K: Sink>(
-    out: &mut K,
-    room: &mut LineRoom,
-    picture: &Picture,
-) -> Result<(), SinkFault>
-    ensures { Wrote result (K.faults out.old) (K.faults out.new) (K.written out.old) (K.written out.new) (frame_header picture.now) }
+fn write_header<K: Sink>(out: &mut K, room: &mut LineRoom, frame: &Frame) -> Result<(), SinkFault>
+    ensures { Wrote result (K.faults out.old) (K.faults out.new) (K.written out.old) (K.written out.new) (frame_header frame.now.picture) }
 {
     room.clear();
     room.push_bytes(b"frame ");
-    room.push_number(picture.width());
+    room.push_number(frame.width());
     room.push(b' ');
-    room.push_number(picture.height());
+    room.push_number(frame.height());
     room.push(b'\n');
     out.write(room.line())
 }
@@ -66,13 +84,13 @@ fn write_header<K: Sink>(
 pub fn write_frame<K: Sink>(
     out: &mut K,
     room: &mut LineRoom,
-    picture: &Picture,
+    frame: &Frame,
 ) -> Result<(), SinkFault>
-    ensures { Wrote result (K.faults out.old) (K.faults out.new) (K.written out.old) (K.written out.new) (frame_text picture.now) }
+    ensures { Wrote result (K.faults out.old) (K.faults out.new) (K.written out.old) (K.written out.new) (frame_text frame.now.picture) }
 {
-    write_header(out, room, picture)?;
-    for y in 0..picture.height() {
-        write_row(out, room, picture, y)?;
+    write_header(out, room, frame)?;
+    for y in 0..frame.height() {
+        write_row(out, room, frame, y)?;
     }
     Ok(())
 }
@@ -112,9 +130,9 @@ fn write_done<K: Sink>(
     out: &mut K,
     room: &mut LineRoom,
     call: &Call,
-    shown: &Picture,
+    shown: &Frame,
 ) -> Result<(), SinkFault>
-    ensures { Wrote result (K.faults out.old) (K.faults out.new) (K.written out.old) (K.written out.new) (done_text call.now shown.now) }
+    ensures { Wrote result (K.faults out.old) (K.faults out.new) (K.written out.old) (K.written out.new) (done_text call.now shown.now.picture) }
 {
     match call {
         Call::Create { .. } | Call::Exec => out.write(b"ok\n"),
@@ -128,9 +146,9 @@ pub fn write_reply<K: Sink>(
     room: &mut LineRoom,
     call: &Call,
     reply: &Reply,
-    shown: &Picture,
+    shown: &Frame,
 ) -> Result<(), SinkFault>
-    ensures { Wrote result (K.faults out.old) (K.faults out.new) (K.written out.old) (K.written out.new) (reply_text call.now reply.now shown.now) }
+    ensures { Wrote result (K.faults out.old) (K.faults out.new) (K.written out.old) (K.written out.new) (reply_text call.now reply.now shown.now.picture) }
 {
     match reply {
         Reply::Done => write_done(out, room, call, shown),

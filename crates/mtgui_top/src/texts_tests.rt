@@ -1,8 +1,8 @@
 use crate::line::Call;
-use crate::picture::Picture;
 use crate::reply::{Refusal, Reply};
 use crate::room::LineRoom;
 use crate::texts::{write_fault, write_frame, write_reply, write_summary};
+use frame::Frame;
 use gfx_base::Colour;
 use outside::{Sink, SinkFault};
 use std::alloc::Global;
@@ -47,16 +47,16 @@ impl Sink for Lines {
     }
 }
 
-/// A black picture of eight by four points, with these points in a colour.
-fn coloured(alloc: Global, value: u32, points: &[(u16, u16)]) -> Result<Picture, Fail> {
-    let mut picture = Picture::new(alloc, 8, 4)?;
+/// A black frame of eight by four points, with these points in a colour.
+fn coloured(alloc: Global, value: u32, points: &[(u16, u16)]) -> Result<Frame, Fail> {
+    let mut frame = Frame::new(alloc, 8, 4)?;
     let colour = Colour::new(value).unwrap_or_default();
     for (x, y) in points {
-        if *x < picture.width() && *y < picture.height() {
-            picture.put(*x, *y, colour);
+        if *x < frame.width() && *y < frame.height() {
+            frame.put(*x, *y, colour);
         }
     }
-    Ok(picture)
+    Ok(frame)
 }
 
 const BLUE_POINTS: [(u16, u16); 6] = [(2, 1), (3, 1), (4, 1), (2, 2), (3, 2), (4, 2)];
@@ -77,12 +77,12 @@ fn a_frame_has_a_line_for_each_row(rt: HostRuntime) -> Result<(), Fail> {
         ),
     ];
     for (value, points, text) in &rows {
-        let picture = coloured(alloc, *value, points)?;
+        let frame = coloured(alloc, *value, points)?;
         let mut lines = Lines::new(alloc, 5);
-        assert!(rt; write_frame(&mut lines, &mut room, &picture).is_ok());
+        assert!(rt; write_frame(&mut lines, &mut room, &frame).is_ok());
         assert_eq!(rt; lines.left, 0, "each line is one write");
         assert_eq!(rt; lines.bytes.as_slice(), *text);
-        assert_eq!(rt; picture.get(0, 0).value(), 0);
+        assert_eq!(rt; frame.get(0, 0).value(), 0);
     }
     Ok(())
 }
@@ -91,9 +91,9 @@ fn a_frame_has_a_line_for_each_row(rt: HostRuntime) -> Result<(), Fail> {
 fn a_frame_stops_where_the_sink_fails(rt: HostRuntime) -> Result<(), Fail> {
     let alloc = rt.alloc();
     let mut room = LineRoom::new(alloc)?;
-    let picture = coloured(alloc, 255, &BLUE_POINTS)?;
+    let frame = coloured(alloc, 255, &BLUE_POINTS)?;
     let mut lines = Lines::new(alloc, 2);
-    assert!(rt; write_frame(&mut lines, &mut room, &picture).is_err());
+    assert!(rt; write_frame(&mut lines, &mut room, &frame).is_err());
     assert_eq!(rt; lines.faults(), 1);
     assert_eq!(rt; lines.bytes.as_slice(), b"frame 8 4\n000000*8\n".as_slice());
     Ok(())
@@ -103,7 +103,7 @@ fn a_frame_stops_where_the_sink_fails(rt: HostRuntime) -> Result<(), Fail> {
 fn each_answer_has_its_line(rt: HostRuntime) -> Result<(), Fail> {
     let alloc = rt.alloc();
     let mut room = LineRoom::new(alloc)?;
-    let picture = coloured(alloc, 255, &BLUE_POINTS)?;
+    let frame = coloured(alloc, 255, &BLUE_POINTS)?;
     let create = Call::Create {
         x: -1,
         y: 2,
@@ -134,7 +134,7 @@ fn each_answer_has_its_line(rt: HostRuntime) -> Result<(), Fail> {
     ];
     for (call, reply, text) in &rows {
         let mut lines = Lines::new(alloc, 5);
-        assert!(rt; write_reply(&mut lines, &mut room, call, reply, &picture).is_ok());
+        assert!(rt; write_reply(&mut lines, &mut room, call, reply, &frame).is_ok());
         assert_eq!(rt; lines.bytes.as_slice(), *text);
     }
     Ok(())

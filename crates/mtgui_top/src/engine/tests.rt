@@ -7,8 +7,8 @@ ghost use Rattle.mtgui_top.specs.Machines.{setup_of, clips_of, ArePlain};
 
 use super::Engine;
 use crate::line::Call;
-use crate::picture::Picture;
 use crate::reply::Reply;
+use frame::Frame;
 use gfx_base::{Colour, Point, Rect};
 use scene::Win;
 use std::alloc::Global;
@@ -19,12 +19,12 @@ fn painter_colour(
     windows: &[Win],
     clips: &[Rect],
     classes: &[Colour],
-    shown: &Picture,
+    shown: &Frame,
     p: Point,
 ) -> Colour
-    requires clips { clips.now ≡ clips_of (setup_of shown.now classes.now) windows.now }
+    requires clips { clips.now ≡ clips_of (setup_of shown.now.picture classes.now) windows.now }
     requires plain { ArePlain classes.now windows.now }
-    ensures { result ≡ painted (looks_of (setup_of shown.now classes.now) windows.now) windows.now p }
+    ensures { result ≡ painted (looks_of (setup_of shown.now.picture classes.now) windows.now) windows.now p }
 {
     let mut colour = Colour::default();
     for i in 0..windows.len() {
@@ -51,7 +51,7 @@ impl Engine {
                     &self.shown,
                     p,
                 );
-                if self.shown.row(y)[usize::from(x)] != painted {
+                if self.shown.get(x, y) != painted {
                     return false;
                 }
             }

@@ -1,6 +1,6 @@
 use Rattle.std.proofs.Common.{refl}
 use Rattle.std.specs.Fmt.{digits}
-use Rattle.mtgui_top.specs.Digits.{hex_colour}
+use Rattle.spelling.specs.Digits.{hex_colour}
 use Rattle.mtgui_top.proofs.ScriptTexts.{first, refused}
 use Rattle.mtgui_top.proofs.examples.scripts_in_numbers.Goals as goal
 

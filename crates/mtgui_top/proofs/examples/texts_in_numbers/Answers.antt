@@ -1,6 +1,6 @@
 use Rattle.std.proofs.Common.{refl}
 use Rattle.std.specs.Fmt.{digits}
-use Rattle.mtgui_top.specs.Digits.{hex_colour}
+use Rattle.spelling.specs.Digits.{hex_colour}
 use Rattle.mtgui_top.specs.Texts.{run_text, points_line, frame_text}
 use Rattle.mtgui_top.proofs.examples.texts_in_numbers.Goals as goal
 

@@ -1,10 +1,10 @@
-use Rattle.std.proofs.Common.{◌≡◌, ◌+◌, ◌*◌}
-use Rattle.mtgui_top.specs.Areas.{filled}
-use Rattle.mtgui_top.proofs.MixedLemmas.{mixed}
+use Rattle.std.proofs.Common.{◌≡◌}
+use Rattle.mtgui_top.specs.Areas.{is_visible_in}
+use Rattle.mtgui_top.proofs.FillLemmas.{to_row, to_point, coloured}
 use Rattle.mtgui_top.proofs.painting.fill_visible.Given as goal
 
 abbrev pub invariant-loop-y : goal.invariant-loop-y
-invariant-loop-y l = l.picture ≡ record l.fn.picture { points = mixed (l.y * l.fn.picture.width) (filled l.area l.above l.colour l.fn.picture).points l.fn.picture.points }
+invariant-loop-y l = l.frame.picture ≡ coloured l.fn.frame.picture (to_row (is_visible_in l.area l.above) l.y) l.colour
 
 abbrev pub invariant-loop-x : goal.invariant-loop-x
-invariant-loop-x l = l.picture ≡ record l.fn.picture { points = mixed (l.y * l.fn.picture.width + l.x) (filled l.area l.above l.colour l.fn.picture).points l.fn.picture.points }
+invariant-loop-x l = l.frame.picture ≡ coloured l.fn.frame.picture (to_point (is_visible_in l.area l.above) l.x l.y) l.colour

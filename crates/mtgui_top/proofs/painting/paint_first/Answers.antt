@@ -11,14 +11,14 @@ use Rattle.mtgui_top.proofs.painting.paint_first.Goals as goal
 
 pub fill_visible-requires : goal.fill_visible-requires
 fill_visible-requires c =
-    job_on c.args.classes.now c.args.windows.now c.args.shown.now c.args.clips.now c.args.which c.meet-area.result _ (position-Some is_invalid c.args.windows.now c.args.which no_window c.requires.first).0 c.requires.clips
+    job_on c.args.classes.now c.args.windows.now c.args.shown.now.picture c.args.clips.now c.args.which c.meet-area.result _ (position-Some is_invalid c.args.windows.now c.args.which no_window c.requires.first).0 c.requires.clips
     (λ p h. (and_parts _ _ (sym (c.meet-area.ensures.points p) ∙ h)).1)
 
 pub returns-in-Some : goal.returns-in-Some
 returns-in-Some c =
     let ws = c.args.windows.now in
     let which = c.args.which in
-    let shown = c.args.shown.now in
+    let shown = c.args.shown.now.picture in
     let class = class_in c.args.classes.now ws which c.requires.first c.requires.plain in
     let colour : c.index-classes-from.result ≡ slice_index c.args.classes.now (get_or ws which no_window).class =
     get_or_read c.args.classes.now c.from.result c.index-classes-from.result (omega (arith, class)) c.index-classes-from.is 0 ∙ ap (slice_index c.args.classes.now) c.from.ensures in

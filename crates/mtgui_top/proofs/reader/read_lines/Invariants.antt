@@ -1,5 +1,5 @@
 use Rattle.std.proofs.Common.{◌≡◌, ◌+◌, ◌≤◌, length}
-use Rattle.mtgui_top.specs.Parts.{lines_of}
+use Rattle.spelling.specs.Parts.{lines_of}
 use Rattle.mtgui_top.specs.Reading.{draft_of, read_from, script_of}
 use Rattle.mtgui_top.proofs.reader.read_lines.Given as goal
 

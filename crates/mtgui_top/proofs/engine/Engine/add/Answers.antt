@@ -8,8 +8,8 @@ use Rattle.mtgui_top.proofs.engine.Engine.add.Goals as goal
 pub invariant_of-self : goal.invariant_of-self
 invariant_of-self c =
     let inside = c.self.inside in
-    let setup = setup_of inside.shown inside.classes.items in
-    let s : State = record { windows = inside.windows.items; next = inside.next; shown = inside.shown } in
+    let setup = setup_of inside.shown.picture inside.classes.items in
+    let s : State = record { windows = inside.windows.items; next = inside.next; shown = inside.shown.picture } in
     let clips = c.put_clips.new.clips in
     let long : c.len.result ≡ length clips.items = search rules in
     let area : c.index.result.now ≡ get_or clips.items (length clips.items - 1) c.index.result.now = c.index.ensures ∙ ap (λ n. get_or clips.items (n - 1) c.index.result.now) long in
@@ -24,8 +24,8 @@ invariant_of-self c =
 pub returns : goal.returns
 returns c =
     let inside = c.self.inside in
-    let setup = setup_of inside.shown inside.classes.items in
-    let s : State = record { windows = inside.windows.items; next = inside.next; shown = inside.shown } in
+    let setup = setup_of inside.shown.picture inside.classes.items in
+    let s : State = record { windows = inside.windows.items; next = inside.next; shown = inside.shown.picture } in
     let clips = c.put_clips.new.clips in
     let long : c.len.result ≡ length clips.items = search rules in
     let area : c.index.result.now ≡ get_or clips.items (length clips.items - 1) c.index.result.now = c.index.ensures ∙ ap (λ n. get_or clips.items (n - 1) c.index.result.now) long in

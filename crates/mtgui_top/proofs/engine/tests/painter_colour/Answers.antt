@@ -11,7 +11,7 @@ nowhere = record { x0 = pos 0; y0 = pos 0; x1 = pos 0; y1 = pos 0 }
 
 pub loop-i-preserved : goal.loop-i-preserved
 loop-i-preserved c =
-    let setup = setup_of c.args.shown.now c.args.classes.now in
+    let setup = setup_of c.args.shown.now.picture c.args.classes.now in
     let ws = c.args.windows.now in
     painted_over-clips setup ws c.args.clips.now c.loop-i.i no_window nowhere c.args.p c.loop-i.colour c.if-has.colour c.loop-i-test.true c.requires.clips
     (elim c.if-has.branch [

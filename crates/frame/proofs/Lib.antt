@@ -1,0 +1,4 @@
+pub mod PictureLaws
+pub mod SpanLemmas
+pub mod TileLemmas
+pub mod CountLaws

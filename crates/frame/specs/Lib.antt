@@ -1,0 +1,3 @@
+pub mod Pictures
+pub mod Areas
+pub mod Canvases

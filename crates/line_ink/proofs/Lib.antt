@@ -1,0 +1,4 @@
+pub mod LineLemmas
+pub mod CourseLemmas
+pub mod WindowLemmas
+pub mod PointLemmas
