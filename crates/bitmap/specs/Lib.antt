@@ -1,0 +1,5 @@
+pub mod Bitmaps
+pub mod Texts
+pub mod Faults
+pub mod Reading
+pub mod Examples
