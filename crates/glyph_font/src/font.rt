@@ -72,6 +72,7 @@ impl Font {
     pub fn height(&self) -> u8
         ensures value { result ≡ self.now.height }
         ensures within { (1 ≤ result) × (result ≤ 32) }
+        ensures font { IsFont self.now }
     {
         self.height
     }

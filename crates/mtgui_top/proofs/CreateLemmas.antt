@@ -86,6 +86,7 @@ create-sound setup s w screen old_clips clips old_capacity capacity sound e f fe
       room = let room = sound.room in omega arith;
       plain = plain-invalidated setup.classes looks area now (plain-push setup.classes s.windows w sound.plain plain);
       few = omega arith;
+      few_classes = sound.few_classes;
       next = let next = sound.next in omega arith;
     }
 

@@ -1,11 +1,10 @@
 -- The damage covers every change: outside it the picture is the painter's.
-use Rattle.std.proofs.Common.{◌≡◌, ℕ, ℤ, pos, zero, suc, ◌+◌, ◌*◌, ◌/◌, ◌%◌, ◌+ℤ◌, ◌-ℤ◌, ◌<◌, ◌≤◌, Bool, true, false, ◌&&◌, List, [], ◌∷◌, ◌++◌, map, get_or, drop, Option, Some, None, refl, sym, ap, ◌∙◌, inl, inr, arith, append_assoc}
-use Rattle.std.specs.Prelude.{◌⊎◌, is_some, position}
+use Rattle.std.proofs.Common.{◌≡◌, ℕ, ℤ, pos, zero, suc, ◌+◌, ◌*◌, ◌/◌, ◌%◌, ◌+ℤ◌, ◌-ℤ◌, ◌<◌, ◌≤◌, Bool, true, false, ◌&&◌, ◌||◌, List, [], ◌∷◌, ◌++◌, map, get_or, drop, Option, Some, None, refl, sym, ap, ◌∙◌, inl, inr, arith, append_assoc}
+use Rattle.std.specs.Prelude.{◌⊎◌, is_some, position, unwrap_or}
 use Rattle.std.specs.List.{list_any, range_with_len, AllByRecursion}
 use Rattle.std.proofs.lemmas.Bool.{cases_Bool}
 use Rattle.std.proofs.lemmas.Int.{ints}
-use Rattle.std.proofs.lemmas.List.FromFn.{get_or-map-range_with_len}
-use Rattle.std.proofs.lemmas.Nat.{div-mul-add, mod-mul-add, mul-add-lt, div_below}
+use Rattle.std.proofs.lemmas.Nat.{div_below}
 use Rattle.std.proofs.Math.Nat.{mod-lt, mul-zero}
 use Rattle.gfx_base.specs.declared.point.Point.{Point}
 use Rattle.gfx_base.specs.declared.rect.Rect.{Rect}
@@ -14,34 +13,31 @@ use Rattle.gfx_base.specs.Rects.{has, is_empty, meet, point_at}
 use Rattle.gfx_base.proofs.RectLemmas.{has-meet, is_empty-has, cover-smallest}
 use Rattle.scene.specs.declared.win.Win.{Win}
 use Rattle.scene.specs.Places.{Place, place_of, place_at}
-use Rattle.scene.specs.Clips.{deepest_level, corner_of, corner_from, frame_of, clip_from, clip_of, outer_clip}
-use Rattle.scene.specs.Painting.{Looks, windows_at, visible, painted_over, painted}
+use Rattle.scene.specs.Clips.{deepest_level, corner_of, corner_from, frame_of, clip_from, clip_of, outer_clip, corner_in}
+use Rattle.scene.specs.Painting.{Looks, windows_at, hides_behind, visible, painted_over, painted}
 use Rattle.scene.specs.Damage.{some_has, is_invalid_at, is_damaged, grown, with_invalid, invalidated}
 use Rattle.mtgui_top.specs.declared.line.Call.{Call}
 use Rattle.mtgui_top.specs.declared.line.Call.TheVariants.{Create, Exec, Scan}
 use Rattle.mtgui_top.specs.declared.line.Line.{Line}
 use Rattle.mtgui_top.specs.declared.reply.Refusal.{Refusal}
 use Rattle.frame.specs.Pictures.{Picture, picture_of, colour_at}
-use Rattle.mtgui_top.specs.Setups.{Setup, screen_of}
-use Rattle.mtgui_top.specs.Looks.{looks_of}
+use Rattle.frame.proofs.PictureLaws.{colour_at-picture_of}
+use Rattle.paint_ops.specs.Operations.{seen_from}
+use Rattle.scene.specs.Looks.{colour_in_window}
+use Rattle.mtgui_top.specs.Setups.{Setup, screen_of, assets_of}
+use Rattle.mtgui_top.specs.Looks.{looks_of, painter}
 use Rattle.mtgui_top.specs.States.{State, desktop_with, opening, new_window, with_window, after_create, refusal_of_create, is_invalid, windows_after_job, is_in_job, colour_after_job, after_job, after_jobs, jobs_of, created, step, state_after}
 use Rattle.mtgui_top.specs.Texts.{reply_text, frame_text}
 use Rattle.mtgui_top.specs.Scripts.{Script}
 use Rattle.mtgui_top.specs.Playing.{setup_for, replies, summary_of}
-use Rattle.mtgui_top.specs.Promises.{DamageCovers, NoneInvalid, painter, before_line, ScansShowPainter}
+use Rattle.mtgui_top.specs.Promises.{DamageCovers, NoneInvalid, before_line, ScansShowPainter}
 use Rattle.mtgui_top.proofs.ScriptsTaken.{all-push}
 use Rattle.mtgui_top.proofs.EngineLemmas.{places-job, jobs-step}
 use Rattle.mtgui_top.proofs.JobLemmas.{none_invalid, no_jobs}
 use Rattle.mtgui_top.proofs.CreateLemmas.{places-invalidated}
-use Rattle.mtgui_top.proofs.SeenLemmas.{Unseen, painted-map, damaged-map, visible_at-map, looks_of-same, unseen_valid, unseen_invalid, or_false, damaged-cons, damaged-from, visible-last, windows_at-agree, windows_at-away, windows_at-here}
+use Rattle.mtgui_top.proofs.SeenLemmas.{Unseen, painted-map, damaged-map, visible_at-map, looks_of-same, unseen_valid, unseen_invalid, painted_over-agree, or_true, or_false, damaged-cons, damaged-from, windows_at-agree, windows_at-away, windows_at-here}
 
 -- ---- pictures
-
-pub colour_at-picture : (w h : ℕ) (f : ℕ → ℕ → ℕ) (x y : ℕ) → x < w → y < h → colour_at (picture_of w h f) x y ≡ f x y
-colour_at-picture w h f x y x_in y_in =
-    get_or-map-range_with_len (λ (i : ℕ). f (i % w) (i / w)) 0 (h * w) (y * w + x) (y * w + x) 0 (omega (arith, mul-add-lt y w x h y_in x_in)) (omega arith)
-    ∙ ap (λ (column : ℕ). f column ((y * w + x) / w)) (mod-mul-add y w x x_in)
-    ∙ ap (f x) (div-mul-add y w x x_in)
 
 same_list : (a n : ℕ) (f g : ℕ → ℕ) → ((i : ℕ) → a ≤ i → i < a + n → f i ≡ g i) → map f (range_with_len a n) ≡ map g (range_with_len a n)
 same_list a zero f g same = refl
@@ -118,7 +114,7 @@ job_covers setup s covers x y x_in y_in outside =
     let looks = looks_of setup s.windows in
     let now = windows_after_job s.windows in
     let undamaged : is_damaged looks now p ≡ false = sym (ap (λ (k : Looks). is_damaged k now p) (looks_of-same setup now s.windows (places-job s.windows))) ∙ outside in
-    colour_at-picture setup.width setup.height (colour_after_job looks s.windows s.shown) x y x_in y_in
+    colour_at-picture_of setup.width setup.height (colour_after_job looks s.windows s.shown) x y x_in y_in
     ∙ elim (cases_Bool (is_in_job looks s.windows p)) [
       | inl here ↦ rw here (sym (painted-job setup s.windows p))
       | inr there ↦
@@ -160,6 +156,10 @@ clip_child (suc levels) screen found other q d e f g top =
     (ap (λ (c : Point). clip_from q (corner_from q c) (outer_clip screen false (Some (clip_of levels screen found d)))) (corner_root levels found other d top)
     ∙ ap (λ (r : Rect). clip_from q (corner_from q (corner_of levels other d)) (outer_clip screen false (Some r))) (clip_root levels screen found other d top))
 
+corner_child : (levels : ℕ) (found other : ℕ → Option Place) (q d : Place) → q.parent ≡ 1 → found 1 ≡ Some d → other 1 ≡ Some d → d.parent ≡ 0 → corner_of levels found q ≡ corner_of levels other q
+corner_child zero found other q d e f g top = refl
+corner_child (suc levels) found other q d e f g top = rw (e, f, g) (ap (corner_from q) (corner_root levels found other d top))
+
 root_found : (desktop : Win) (ws : List Win) → desktop.handle ≡ 1 → place_at (desktop ∷ ws) 1 ≡ Some (place_of desktop)
 root_found desktop ws e = rw e refl
 
@@ -169,6 +169,26 @@ children_agree setup desktop ws vs [] handle top all = tt
 children_agree setup desktop ws vs (u ∷ us) handle top all = (
   clip_child deepest_level (screen_of setup) (place_at (desktop ∷ vs)) (place_at (desktop ∷ ws)) (place_of u) (place_of desktop) all.0 (root_found desktop vs handle) (root_found desktop ws handle) top,
   children_agree setup desktop ws vs us handle top all.1,
+)
+
+-- a window paints the same at a point where its corner is the same
+same_paint : (setup : Setup) (ws vs : List Win) (w : Win) (p : Point) → corner_in vs w ≡ corner_in ws w → (c : ℕ) → (looks_of setup vs).paint w p c ≡ (looks_of setup ws).paint w p c
+same_paint setup ws vs w p e c = ap (λ (corner : Point). unwrap_or (colour_in_window (assets_of setup) w (seen_from corner p)) c) e
+
+children_paint : (setup : Setup) (desktop : Win) (ws vs us : List Win) (p : Point) → desktop.handle ≡ 1 → desktop.parent ≡ 0 → AllByRecursion (λ w. w.parent ≡ 1) us
+    → AllByRecursion (λ w. (c : ℕ) → (looks_of setup (desktop ∷ vs)).paint w p c ≡ (looks_of setup (desktop ∷ ws)).paint w p c) us
+children_paint setup desktop ws vs [] p handle top all = tt
+children_paint setup desktop ws vs (u ∷ us) p handle top all = (
+  same_paint setup (desktop ∷ ws) (desktop ∷ vs) u p (corner_child deepest_level (place_at (desktop ∷ vs)) (place_at (desktop ∷ ws)) (place_of u) (place_of desktop) all.0 (root_found desktop vs handle) (root_found desktop ws handle) top),
+  children_paint setup desktop ws vs us p handle top all.1,
+)
+
+-- a window on top changes nothing of what the others paint
+paints_agree : (setup : Setup) (ws : List Win) (w : Win) (p : Point) → IsRooted ws → AllByRecursion (λ v. (c : ℕ) → (looks_of setup (ws ++ w ∷ [])).paint v p c ≡ (looks_of setup ws).paint v p c) ws
+paints_agree setup [] w p rooted = tt
+paints_agree setup (desktop ∷ ws) w p rooted = (
+  same_paint setup (desktop ∷ ws) (desktop ∷ ws ++ w ∷ []) desktop p (corner_root deepest_level (place_at (desktop ∷ ws ++ w ∷ [])) (place_at (desktop ∷ ws)) (place_of desktop) rooted.1),
+  children_paint setup desktop ws (ws ++ w ∷ []) ws p rooted.0 rooted.1 rooted.2,
 )
 
 -- a window on top moves no clip
@@ -211,16 +231,35 @@ new_is_invalid looks w p none here =
     let inside : has (meet (looks.clip w) (looks.clip w)) p ≡ true = has-meet (looks.clip w) (looks.clip w) p ∙ both_true (has (looks.clip w) p) here in
     rw (is_empty-has (meet (looks.clip w) (looks.clip w)) p inside) (first_has w.invalid (meet (looks.clip w) (looks.clip w)) p none inside)
 
--- the windows after a new one, and the damage where that one lies
-here_is_damaged : (looks : Looks) (ws : List Win) (w : Win) (p : Point) → Unseen looks (invalidated looks (looks.clip w)) → looks.is_opaque w ≡ true → w.invalid ≡ None → has (looks.clip w) p ≡ true
-    → is_damaged looks (map (invalidated looks (looks.clip w)) (ws ++ w ∷ [])) p ≡ true
-here_is_damaged looks ws w p u opaque none here =
-    let f : Win → Win = invalidated looks (looks.clip w) in
-    let seen : visible looks (windows_at looks (ws ++ w ∷ []) p) ≡ w ∷ [] = ap (visible looks) (windows_at-here looks ws w p here) ∙ visible-last looks (windows_at looks ws p) w opaque in
-    ap (list_any (is_invalid_at p)) (visible_at-map looks f (ws ++ w ∷ []) p u ∙ ap (map f) seen) ∙ rw (new_is_invalid looks w p none here) refl
+any-map : (t : Win → Bool) (f : Win → Win) (ws : List Win) → list_any t (map f ws) ≡ list_any (λ w. t (f w)) ws
+any-map t f [] = refl
+any-map t f (w ∷ ws) = ap (λ (b : Bool). t (f w) || b) (any-map t f ws)
 
-create_covers : (setup : Setup) (s : State) (w : Win) → IsRooted s.windows → w.invalid ≡ None → w.trans ≡ false → DamageCovers setup s → DamageCovers setup (after_create setup s w)
-create_covers setup s w rooted none opaque covers x y x_in y_in outside =
+any-last : (t : Win → Bool) (ws : List Win) (w : Win) → t w ≡ true → list_any t (ws ++ w ∷ []) ≡ true
+any-last t [] w h = rw h refl
+any-last t (v ∷ ws) w h = rw (any-last t ws w h) (or_true (t v))
+
+-- the window on top is visible, whether it hides what is behind it or not
+top_is_seen : (looks : Looks) (t : Win → Bool) (ws : List Win) (w : Win) → t w ≡ true → list_any t (visible looks (ws ++ w ∷ [])) ≡ true
+top_is_seen looks t [] w h = rw h refl
+top_is_seen looks t (v ∷ ws) w h =
+    elim (cases_Bool (hides_behind looks (ws ++ w ∷ []))) [
+      | inl hidden ↦ rw hidden (top_is_seen looks t ws w h)
+      | inr shown ↦ rw (shown, any-last t ws w h) (or_true (t v))
+    ]
+
+-- the windows after a new one, and the damage where that one lies
+here_is_damaged : (looks : Looks) (ws : List Win) (w : Win) (p : Point) → Unseen looks (invalidated looks (looks.clip w)) → w.invalid ≡ None → has (looks.clip w) p ≡ true
+    → is_damaged looks (map (invalidated looks (looks.clip w)) (ws ++ w ∷ [])) p ≡ true
+here_is_damaged looks ws w p u none here =
+    let f : Win → Win = invalidated looks (looks.clip w) in
+    ap (list_any (is_invalid_at p)) (visible_at-map looks f (ws ++ w ∷ []) p u)
+    ∙ any-map (is_invalid_at p) f (visible looks (windows_at looks (ws ++ w ∷ []) p))
+    ∙ ap (λ (vs : List Win). list_any (λ v. is_invalid_at p (f v)) (visible looks vs)) (windows_at-here looks ws w p here)
+    ∙ top_is_seen looks (λ v. is_invalid_at p (f v)) (windows_at looks ws p) w (new_is_invalid looks w p none here)
+
+create_covers : (setup : Setup) (s : State) (w : Win) → IsRooted s.windows → w.invalid ≡ None → DamageCovers setup s → DamageCovers setup (after_create setup s w)
+create_covers setup s w rooted none covers x y x_in y_in outside =
     let p : Point = point_at (pos x) (pos y) in
     let ws = s.windows in
     let old = looks_of setup ws in
@@ -231,7 +270,7 @@ create_covers setup s w rooted none opaque covers x y x_in y_in outside =
     let same = looks_of-same setup now (ws ++ w ∷ []) (places-invalidated looks (looks.clip w) (ws ++ w ∷ [])) in
     let undamaged : is_damaged looks now p ≡ false = sym (ap (λ (k : Looks). is_damaged k now p) same) ∙ outside in
     elim (cases_Bool (has (looks.clip w) p)) [
-      | inl here ↦ absurd (false_is_true (sym undamaged ∙ here_is_damaged looks ws w p u (rw opaque refl) none here))
+      | inl here ↦ absurd (false_is_true (sym undamaged ∙ here_is_damaged looks ws w p u none here))
       | inr away ↦
           let at : windows_at looks (ws ++ w ∷ []) p ≡ windows_at old ws p = windows_at-away looks ws w p away ∙ windows_at-agree old looks ws p (clips_agree setup ws w rooted) in
           let before : is_damaged old ws p ≡ false = elim (cases_Bool (is_damaged old ws p)) [
@@ -241,7 +280,7 @@ create_covers setup s w rooted none opaque covers x y x_in y_in outside =
             | inr none ↦ none
           ] in
           covers x y x_in y_in before
-          ∙ sym (ap (λ (k : Looks). painted k now p) same ∙ painted-map looks f (ws ++ w ∷ []) p u ∙ ap (painted_over looks p 0) at)
+          ∙ sym (ap (λ (k : Looks). painted k now p) same ∙ painted-map looks f (ws ++ w ∷ []) p u ∙ ap (painted_over looks p 0) at ∙ painted_over-agree old looks ws p 0 (paints_agree setup ws w p rooted))
     ]
 
 -- ---- the opening
@@ -320,7 +359,7 @@ create_holds setup s x y w h class None is =
     let looks = looks_of setup (s.windows ++ new ∷ []) in
     record {
       rooted = rooted-places (s.windows ++ new ∷ []) (with_window setup s.windows new) (places-invalidated looks (looks.clip new) (s.windows ++ new ∷ [])) (rooted-push s.windows new refl is.rooted);
-      covers = create_covers setup s new is.rooted refl refl is.covers;
+      covers = create_covers setup s new is.rooted refl is.covers;
       colours = is.colours;
       shown = is.shown;
     }
@@ -360,7 +399,7 @@ pub shown_is_painter : (setup : Setup) (s : State) → Holds setup s → NoneInv
 shown_is_painter setup s h none =
     h.shown
     ∙ picture_of-same setup.width setup.height h.colours (λ x y. painted (looks_of setup s.windows) s.windows (point_at (pos x) (pos y))) (λ x y x_in y_in.
-    sym (colour_at-picture setup.width setup.height h.colours x y x_in y_in)
+    sym (colour_at-picture_of setup.width setup.height h.colours x y x_in y_in)
     ∙ ap (λ (shown : Picture). colour_at shown x y) (sym h.shown)
     ∙ h.covers x y x_in y_in (valid_is_no_damage (looks_of setup s.windows) s.windows (point_at (pos x) (pos y)) none))
 

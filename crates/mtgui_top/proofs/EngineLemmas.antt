@@ -51,6 +51,7 @@ job-sound setup s screen clips capacity sound = record {
   room = sound.room;
   plain = plain-job setup.classes s.windows sound.plain;
   few = let same = length-job s.windows in let few = sound.few in omega arith;
+  few_classes = sound.few_classes;
   next = let same = length-job s.windows in let next = sound.next in omega arith;
 }
 

@@ -21,7 +21,8 @@ use Rattle.mtgui_top.specs.States.{is_invalid, windows_after_job, is_in_job, col
 use Rattle.mtgui_top.specs.Looks.{looks_of}
 use Rattle.mtgui_top.specs.Machines.{setup_of, clips_of, IsPlain, ArePlain}
 use Rattle.mtgui_top.specs.Areas.{is_hidden, filled, IsOn}
-use Rattle.mtgui_top.specs.Setups.{screen_of}
+use Rattle.mtgui_top.specs.Setups.{Setup, screen_of}
+use Rattle.mtgui_top.proofs.SeenLemmas.{is_opaque-plain, colour-plain}
 use Rattle.scene.specs.Clips.{clip_in}
 use Rattle.scene.proofs.PlaceLemmas.{has-clip_in}
 use Rattle.mtgui_top.proofs.BlockLemmas.{IsOn-screen}
@@ -146,9 +147,9 @@ plain_from : (classes : List ℕ) (before : List Win) (w : Win) (after : List Wi
 plain_from classes [] w after plain = plain
 plain_from classes (v ∷ before) w after plain = plain_from classes before w after plain.1
 
-opaque_from : (classes : List ℕ) (looks : Looks) (ws : List Win) → ((w : Win) → looks.is_opaque w ≡ not w.trans) → ArePlain classes ws → AllOpaque looks ws
-opaque_from classes looks [] is plain = tt
-opaque_from classes looks (w ∷ ws) is plain = (is w ∙ ap not plain.0.0, opaque_from classes looks ws is plain.1)
+opaque_from : (setup : Setup) (all ws : List Win) → ArePlain setup.classes ws → AllOpaque (looks_of setup all) ws
+opaque_from setup all [] plain = tt
+opaque_from setup all (w ∷ ws) plain = (is_opaque-plain setup.classes w plain.0, opaque_from setup all ws plain.1)
 
 pub shown-filled : (classes : List ℕ) (ws : List Win) (shown : Picture) (clips : List Rect) (which : ℕ) (invalid : Rect) (d : Rect) → position is_invalid ws ≡ Some which → clips ≡ clips_of (setup_of shown classes) ws → ArePlain classes ws
     → (get_or ws which no_window).invalid ≡ Some invalid
@@ -164,7 +165,7 @@ shown-filled classes ws shown clips which invalid d e clips_are plain is =
     let clip : get_or clips which d ≡ looks.clip w = ap (λ (cs : List Rect). get_or cs which d) clips_are ∙ get_or-map looks.clip ws which no_window d lt in
     let above : drop (which + 1) clips ≡ map looks.clip after = ap (drop (which + 1)) clips_are ∙ drop-map looks.clip (which + 1) ws in
     rw (clip, above)
-    (filled-job looks before w after invalid (slice_index classes w.class) shown s.valid is (opaque_from classes looks after (λ v. refl) both.1) (λ p behind. rw both.0.0 refl)
+    (filled-job looks before w after invalid (slice_index classes w.class) shown s.valid is (opaque_from (setup_of shown classes) ws after both.1) (λ p behind. colour-plain (setup_of shown classes) ws w p behind both.0)
     ∙ ap (λ (vs : List Win). picture_of shown.width shown.height (colour_after_job looks vs shown)) (sym s.parts))
 
 -- the area of a job lies on the screen

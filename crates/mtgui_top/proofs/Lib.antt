@@ -17,6 +17,7 @@ pub mod RunLemmas
 pub mod FrameLemmas
 pub mod Writes
 pub mod PlayLemmas
+pub mod PlainLemmas
 pub mod SeenLemmas
 pub mod DamageLaws
 pub mod ScriptTexts

@@ -6,8 +6,11 @@ use Rattle.mtgui_top.specs.declared.reply.Reply.{Reply}
 use Rattle.mtgui_top.specs.Setups.{Setup}
 use Rattle.mtgui_top.specs.States.{State, step, state_after}
 use Rattle.mtgui_top.specs.declared.line.Call.{Call}
-use Rattle.mtgui_top.specs.Texts.{reply_text, summary_text}
-use Rattle.mtgui_top.specs.Playing.{replies, is_refused, refused_count, summary_of}
+use Rattle.mtgui_top.specs.Looks.{painter}
+use Rattle.mtgui_top.specs.Machines.{Machine, starting}
+use Rattle.mtgui_top.specs.Scripts.{Script}
+use Rattle.mtgui_top.specs.Texts.{frame_text, reply_text, summary_text}
+use Rattle.mtgui_top.specs.Playing.{replies, is_refused, refused_count, summary_of, paint_text}
 
 pub replies-more : (setup : Setup) (s new : State) (lines : List Line) (i : ℕ) (d : Line) (reply : Reply) (last : List ℕ) → i < length lines → (new, reply) ≡ step setup s (get_or lines i d).call
     → replies setup s (drop i lines) ++ last ≡ reply_text (get_or lines i d).call reply new.shown ++ (replies setup new (drop (i + 1) lines) ++ last)
@@ -43,3 +46,8 @@ summary-last setup s now lines i refused windows le counted last is =
     let all : refused ≡ refused_count setup s lines = omega arith in
     let end : now ≡ state_after setup s lines = sym (at_drop_all (state_after setup now) lines i le) ∙ last in
     rw (all, is, end) refl
+
+-- the painter's picture after the calls of a script
+pub painted_text : (script : Script) (width height : ℕ) (classes : List ℕ) (lines : List Line) (m : Machine) → width ≡ script.width → height ≡ script.height → classes ≡ script.classes → lines ≡ script.lines → m ≡ starting width height classes
+    → frame_text (painter m.setup (state_after m.setup m.state lines).windows) ≡ paint_text script
+painted_text script width height classes lines m w h c l opened = rw (opened, w, h, c, l) refl

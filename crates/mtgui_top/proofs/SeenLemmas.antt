@@ -1,6 +1,6 @@
 -- Windows at a point: what changes that their looks don't show leave, and a window more.
-use Rattle.std.proofs.Common.{◌≡◌, ℕ, zero, suc, ◌+◌, ◌<◌, Bool, true, false, cond, ◌||◌, List, [], ◌∷◌, ◌++◌, length, map, get_or, drop, Option, None, refl, sym, ap, subst, ◌∙◌, inl, inr, arith}
-use Rattle.std.specs.Prelude.{◌⊎◌, unwrap_or}
+use Rattle.std.proofs.Common.{◌≡◌, ℕ, zero, suc, ◌+◌, ◌<◌, Bool, true, false, cond, ◌||◌, ◌&&◌, List, [], ◌∷◌, ◌++◌, length, map, get_or, drop, Option, Some, None, refl, sym, ap, subst, ◌∙◌, inl, inr, arith}
+use Rattle.std.specs.Prelude.{◌⊎◌, unwrap_or, is_some, not}
 use Rattle.std.specs.List.{list_any, AllByRecursion}
 use Rattle.std.proofs.lemmas.Bool.{cases_Bool}
 use Rattle.std.proofs.lemmas.List.{append-nil, at_drop_more, get_or-map}
@@ -10,12 +10,14 @@ use Rattle.gfx_base.specs.declared.rect.Rect.{Rect}
 use Rattle.gfx_base.specs.Rects.{has, is_empty, meet}
 use Rattle.scene.specs.declared.win.Win.{Win}
 use Rattle.scene.specs.Places.{Place, place_of}
-use Rattle.scene.specs.Clips.{deepest_level, clip_of, clip_in}
+use Rattle.scene.specs.Clips.{deepest_level, corner_of, corner_in, clip_of, clip_in}
 use Rattle.scene.specs.Painting.{Looks, windows_at, hides_behind, visible, painted_over, painted}
 use Rattle.scene.specs.Damage.{is_invalid_at, is_damaged, with_invalid, invalidated}
 use Rattle.scene.proofs.PlaceLemmas.{place_at-same}
-use Rattle.mtgui_top.specs.Setups.{Setup, screen_of}
-use Rattle.mtgui_top.specs.Looks.{looks_of, is_opaque, colour_in_window}
+use Rattle.mtgui_top.specs.Setups.{Setup, screen_of, assets_of, plain_class, plain_assets}
+use Rattle.scene.specs.Looks.{class_of, inputs_of, is_opaque, colour_in_window}
+use Rattle.paint_ops.specs.Operations.{or_behind, seen_from, colour_of_operations}
+use Rattle.mtgui_top.specs.Looks.{looks_of}
 use Rattle.mtgui_top.specs.Machines.{IsPlain, ArePlain}
 
 -- ---- changes that the looks don't show
@@ -75,8 +77,8 @@ damaged-map looks f ws p u grows some = ap (list_any (is_invalid_at p)) (visible
 abbrev looks_with : Setup → (ℕ → Option Place) → Looks
 looks_with setup found = record {
   clip = λ w. clip_of deepest_level (screen_of setup) found (place_of w);
-  is_opaque = is_opaque;
-  paint = λ w p behind. unwrap_or (colour_in_window setup.classes w p) behind;
+  is_opaque = is_opaque (assets_of setup);
+  paint = λ w p behind. unwrap_or (colour_in_window (assets_of setup) w (seen_from (corner_of deepest_level found (place_of w)) p)) behind;
 }
 
 -- windows that lie where others lie look as they do
@@ -152,6 +154,16 @@ windows_at-agree looks other (w ∷ ws) p agree =
       | inr away ↦ rw (agree.0, away) (windows_at-agree looks other ws p agree.1)
     ]
 
+-- the painter's colour depends on what each window paints there
+pub painted_over-agree : (looks other : Looks) (ws : List Win) (p : Point) (behind : ℕ) → AllByRecursion (λ w. (c : ℕ) → other.paint w p c ≡ looks.paint w p c) ws
+    → painted_over other p behind (windows_at looks ws p) ≡ painted_over looks p behind (windows_at looks ws p)
+painted_over-agree looks other [] p behind agree = refl
+painted_over-agree looks other (w ∷ ws) p behind agree =
+    elim (cases_Bool (has (looks.clip w) p)) [
+      | inl here ↦ rw here (ap (λ (c : ℕ). painted_over other p c (windows_at looks ws p)) (agree.0 behind) ∙ painted_over-agree looks other ws p (looks.paint w p behind) agree.1)
+      | inr away ↦ rw away (painted_over-agree looks other ws p behind agree.1)
+    ]
+
 last_away : (looks : Looks) (w : Win) (p : Point) → has (looks.clip w) p ≡ false → windows_at looks (w ∷ []) p ≡ []
 last_away looks w p away = rw away refl
 
@@ -186,8 +198,17 @@ painted_over-visible looks (w ∷ ws) p behind covers =
       | inr seen ↦ rw seen refl
     ]
 
-opaque_paint : (setup : Setup) (ws : List Win) (w : Win) (p : Point) (c d : ℕ) → is_opaque w ≡ true → (looks_of setup ws).paint w p c ≡ (looks_of setup ws).paint w p d
-opaque_paint setup ws w p c d opaque = rw opaque refl
+-- where there is a colour behind the operations, nothing behind that is seen
+same_over : (back drawn : Option ℕ) (opaque : Bool) (c d : ℕ) → opaque && is_some back ≡ true → unwrap_or (or_behind (cond (opaque && is_some back) back None) drawn) c ≡ unwrap_or (or_behind (cond (opaque && is_some back) back None) drawn) d
+same_over back (Some colour) opaque c d e = refl
+same_over None None true c d e = absurd cc
+same_over None None false c d e = absurd cc
+same_over (Some back) None true c d e = refl
+same_over (Some back) None false c d e = absurd cc
+
+opaque_paint : (setup : Setup) (ws : List Win) (w : Win) (p : Point) (c d : ℕ) → is_opaque (assets_of setup) w ≡ true → (looks_of setup ws).paint w p c ≡ (looks_of setup ws).paint w p d
+opaque_paint setup ws w p c d opaque =
+    same_over (class_of (assets_of setup) w).back (colour_of_operations (assets_of setup) (inputs_of w) (class_of (assets_of setup) w).ops (seen_from (corner_in ws w) p)) (not w.trans) c d opaque
 
 pub painted-visible : (setup : Setup) (ws : List Win) (p : Point) → painted (looks_of setup ws) ws p ≡ painted_over (looks_of setup ws) p 0 (visible (looks_of setup ws) (windows_at (looks_of setup ws) ws p))
 painted-visible setup ws p = painted_over-visible (looks_of setup ws) (windows_at (looks_of setup ws) ws p) p 0 (λ w c d opaque. opaque_paint setup ws w p c d opaque)
@@ -218,8 +239,16 @@ all-at P [] i d all lt = absurd (omega arith)
 all-at P (x ∷ xs) zero d all lt = all.0
 all-at P (x ∷ xs) (suc i) d all lt = all-at P xs i d all.1 (omega arith)
 
-opaque_colour : (setup : Setup) (ws : List Win) (w : Win) (p : Point) (behind : ℕ) → w.trans ≡ false → (looks_of setup ws).paint w p behind ≡ get_or setup.classes w.class 0
-opaque_colour setup ws w p behind opaque = rw opaque refl
+-- the class of a window of a setup
+pub class_of-plain : (classes : List ℕ) (w : Win) → w.class < length classes → class_of (plain_assets classes) w ≡ plain_class (get_or classes w.class 0)
+class_of-plain classes w lt = get_or-map plain_class classes w.class 0 _ lt
+
+pub is_opaque-plain : (classes : List ℕ) (w : Win) → IsPlain classes w → is_opaque (plain_assets classes) w ≡ true
+is_opaque-plain classes w plain = rw (plain.0, class_of-plain classes w plain.1) refl
+
+-- an opaque window without operations has its class's colour everywhere
+pub colour-plain : (setup : Setup) (ws : List Win) (w : Win) (p : Point) (behind : ℕ) → IsPlain setup.classes w → (looks_of setup ws).paint w p behind ≡ get_or setup.classes w.class 0
+colour-plain setup ws w p behind plain = rw (plain.0, class_of-plain setup.classes w plain.1) refl
 
 any_default : (xs : List ℕ) (i d e : ℕ) → i < length xs → get_or xs i d ≡ get_or xs i e
 any_default [] i d e lt = absurd (omega arith)
@@ -232,4 +261,4 @@ pub class_colour : (setup : Setup) (ws : List Win) (i class : ℕ) (w : Win) (p 
 class_colour setup ws i class w p behind now plain lt is found =
     let is_plain = all-at (IsPlain setup.classes) ws i w plain lt in
     let known : class < length setup.classes = subst (λ (n : ℕ). n < length setup.classes) (sym is) is_plain.1 in
-    found ∙ any_default setup.classes class now 0 known ∙ ap (λ (n : ℕ). get_or setup.classes n 0) is ∙ sym (opaque_colour setup ws (get_or ws i w) p behind is_plain.0)
+    found ∙ any_default setup.classes class now 0 known ∙ ap (λ (n : ℕ). get_or setup.classes n 0) is ∙ sym (colour-plain setup ws (get_or ws i w) p behind is_plain)

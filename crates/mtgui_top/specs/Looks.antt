@@ -1,27 +1,13 @@
--- How windows look whose class has a back colour alone.
-use Rattle.std.specs.Prelude.{ℕ, Bool, not, if◌then◌else◌, ◌-ℤ◌, List, slice_index, Option, Some, None, unwrap_or}
-use Rattle.gfx_base.specs.declared.point.Point.{Point}
-use Rattle.gfx_base.specs.Rects.{point_at}
+-- How the windows of a setup look, and the painter's picture of them.
+use Rattle.std.specs.Prelude.{List}
+use Rattle.frame.specs.Pictures.{Picture}
 use Rattle.scene.specs.declared.win.Win.{Win}
-use Rattle.scene.specs.Clips.{corner_in, clip_in}
 use Rattle.scene.specs.Painting.{Looks}
-use Rattle.mtgui_top.specs.Setups.{Setup, screen_of}
-
--- whether nothing behind the window can be seen through it
-abbrev pub is_opaque : Win → Bool
-is_opaque w = not w.trans
-
--- the colour that a window puts on a point of its own, if any: the back colour of its class
-abbrev pub colour_in_window : List ℕ → Win → Point → Option ℕ
-colour_in_window classes w local = if is_opaque w then Some (slice_index classes w.class) else None
-
--- a point of the screen, seen from the window's upper left corner
-abbrev pub local_point : List Win → Win → Point → Point
-local_point ws w p = point_at (p.x -ℤ (corner_in ws w).x) (p.y -ℤ (corner_in ws w).y)
+use Rattle.scene.specs.Looks.{looks_of as looks_on, painter as painter_on}
+use Rattle.mtgui_top.specs.Setups.{Setup, screen_of, assets_of}
 
 abbrev pub looks_of : Setup → List Win → Looks
-looks_of setup ws = record {
-  clip = clip_in (screen_of setup) ws;
-  is_opaque = is_opaque;
-  paint = λ w p behind. unwrap_or (colour_in_window setup.classes w (local_point ws w p)) behind;
-}
+looks_of setup ws = looks_on (assets_of setup) (screen_of setup) ws
+
+abbrev pub painter : Setup → List Win → Picture
+painter setup ws = painter_on (assets_of setup) setup.width setup.height ws

@@ -29,9 +29,9 @@ pub record Answers (old : Machine) (call : Call) (new : Machine) (reply : Reply)
 abbrev pub setup_of : Picture → List ℕ → Setup
 setup_of shown classes = record { width = shown.width; height = shown.height; classes = classes }
 
--- the window is opaque and its class exists
+-- the window isn't transparent, its class exists, and its sides are at most 4,096 points long
 abbrev pub IsPlain : List ℕ → Win → Type 0
-IsPlain classes w = (w.trans ≡ false) × (w.class < length classes)
+IsPlain classes w = (w.trans ≡ false) × (w.class < length classes) × (w.w ≤ 4096) × (w.h ≤ 4096)
 
 abbrev pub ArePlain : List ℕ → List Win → Type 0
 ArePlain classes ws = AllByRecursion (IsPlain classes) ws
@@ -47,4 +47,5 @@ pub record IsSound (setup : Setup) (s : State) (screen : Rect) (clips : List Rec
   pub room : 256 ≤ capacity
   pub plain : ArePlain setup.classes s.windows
   pub few : length s.windows ≤ 256
+  pub few_classes : length setup.classes ≤ 64
   pub next : s.next ≡ length s.windows + 1

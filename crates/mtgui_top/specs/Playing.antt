@@ -7,10 +7,13 @@ use Rattle.mtgui_top.specs.declared.reply.Reply.TheVariants.{Done, Handle, Jobs,
 use Rattle.mtgui_top.specs.declared.fault.Reason.{Reason}
 use Rattle.mtgui_top.specs.declared.fault.Reason.TheVariants as reason
 use Rattle.mtgui_top.specs.declared.fault.Fault.{Fault}
+use Rattle.mtgui_top.specs.declared.command.Verb.{Verb}
+use Rattle.mtgui_top.specs.declared.command.Verb.TheVariants.{Play, Paint}
 use Rattle.mtgui_top.specs.Setups.{Setup}
+use Rattle.mtgui_top.specs.Looks.{painter}
 use Rattle.mtgui_top.specs.States.{State, opening, step, state_after}
 use Rattle.mtgui_top.specs.Scripts.{Script}
-use Rattle.mtgui_top.specs.Texts.{reply_text, summary_text, fault_text}
+use Rattle.mtgui_top.specs.Texts.{frame_text, reply_text, summary_text, fault_text}
 
 -- what the calls of lines are answered, one after the other
 abbrev pub replies : Setup → State → List Line → List ℕ
@@ -43,6 +46,17 @@ play_text script =
     let setup = setup_for script in
     replies setup (opening setup) script.lines ++ summary_of setup (opening setup) script.lines
 
+-- the paint text of a script: the painter's picture of the windows after its calls
+abbrev pub paint_text : Script → List ℕ
+paint_text script =
+    let setup = setup_for script in
+    frame_text (painter setup (state_after setup (opening setup) script.lines).windows)
+
+-- what is written for a script
+abbrev pub text_for : Verb → Script → List ℕ
+text_for Play script = play_text script
+text_for Paint script = paint_text script
+
 abbrev pub reason_text : Reason → List ℕ
 reason_text reason.TooLarge = codes "too-large"
 reason_text reason.Ascii = codes "ascii"
@@ -65,7 +79,12 @@ fault_line fault = fault_text fault.line (reason_text fault.reason)
 abbrev pub is_file_name : List ℕ → Bool
 is_file_name name = length name == 1 || not (slice_index name 0 == 45)
 
--- the words are `play` and a file's name
-pub record IsPlay (words : List (String Global)) (name : List ℕ) : Type 0 where
-  pub spelled : map (λ word. string_bytes word) words ≡ codes "play" ∷ name ∷ []
+-- the word that asks for it
+abbrev pub verb_word : Verb → List ℕ
+verb_word Play = codes "play"
+verb_word Paint = codes "paint"
+
+-- the words are that word and a file's name
+pub record IsCommand (verb : Verb) (words : List (String Global)) (name : List ℕ) : Type 0 where
+  pub spelled : map (λ word. string_bytes word) words ≡ verb_word verb ∷ name ∷ []
   pub is_name : is_file_name name ≡ true

@@ -7,9 +7,9 @@ use Rattle.scene.specs.Painting.{painted}
 use Rattle.scene.specs.Damage.{is_damaged}
 use Rattle.mtgui_top.specs.declared.line.Call.TheVariants.{Scan}
 use Rattle.mtgui_top.specs.declared.line.Line.{Line}
-use Rattle.frame.specs.Pictures.{Picture, picture_of, colour_at}
+use Rattle.frame.specs.Pictures.{colour_at}
 use Rattle.mtgui_top.specs.Setups.{Setup}
-use Rattle.mtgui_top.specs.Looks.{looks_of}
+use Rattle.mtgui_top.specs.Looks.{looks_of, painter}
 use Rattle.mtgui_top.specs.States.{State, opening, is_invalid, state_after}
 use Rattle.mtgui_top.specs.Scripts.{Script}
 use Rattle.mtgui_top.specs.Texts.{frame_text}
@@ -24,10 +24,6 @@ DamageCovers setup s =
 -- no window waits to be painted
 abbrev pub NoneInvalid : List Win → Type 0
 NoneInvalid ws = list_any is_invalid ws ≡ false
-
--- the painter's picture of the windows
-abbrev pub painter : Setup → List Win → Picture
-painter setup ws = picture_of setup.width setup.height (λ x y. painted (looks_of setup ws) ws (point_at (pos x) (pos y)))
 
 -- the state before the line that follows these
 abbrev pub before_line : Script → List Line → State

@@ -1,7 +1,7 @@
 //! The windows and the shown picture, changed call by call. All memory is taken at opening.
 
 ghost use Rattle.std.specs.Prelude.{◌≡◌, ◌<◌, ◌≤◌, Some, length, position, vec_len, IfOk};
-ghost use Rattle.mtgui_top.specs.Setups.{screen_with};
+ghost use Rattle.scene.specs.Looks.{screen_with};
 ghost use Rattle.mtgui_top.specs.States.{desktop_with, new_window, is_bad_size};
 
 use crate::line::Call;
@@ -9,7 +9,8 @@ use crate::painting::{first_invalid, invalidate_area, paint_first, put_clips};
 use crate::reply::{Refusal, Reply};
 use frame::Frame;
 use gfx_base::{Colour, Memory, Rect};
-use scene::{Stack, Win};
+use paint_ops::Assets;
+use scene::{Stack, Win, paint_whole};
 use std::alloc::Global;
 use std::marker::Model;
 
@@ -97,6 +98,8 @@ fn screen(width: u16, height: u16) -> Rect
 }
 
 impl Engine {
+    ghost use Rattle.mtgui_top.specs.Setups.{assets_of};
+    ghost use Rattle.mtgui_top.specs.Looks.{painter};
     ghost use Rattle.mtgui_top.specs.Machines.{Answers, IsPlain, starting};
     ghost use Rattle.mtgui_top.specs.States.{is_invalid, after_job, after_jobs, jobs_of, refusal_of_create, after_create};
 
@@ -110,7 +113,7 @@ impl Engine {
     ) -> Result<Engine, Memory>
         requires width { (1 ≤ width) × (width ≤ 1024) }
         requires height { (1 ≤ height) × (height ≤ 768) }
-        requires classes { 0 < vec_len classes }
+        requires classes { (0 < vec_len classes) × (vec_len classes ≤ 64) }
         ensures { IfOk result (λ engine. engine ≡ starting width height classes.items) }
     {
         let shown = Frame::new(alloc, width, height)?;
@@ -135,6 +138,16 @@ impl Engine {
         ensures { result.now.picture ≡ self.now.state.shown }
     {
         &self.shown
+    }
+
+    /// Gives the picture, which has the screen's sides, the painter's colours of the windows. `assets` are those of the classes.
+    pub fn paint(&self, assets: &Assets, picture: &mut Frame)
+        requires assets { assets.now ≡ assets_of self.now.setup }
+        requires width { picture.old.picture.width ≡ self.now.setup.width }
+        requires height { picture.old.picture.height ≡ self.now.setup.height }
+        ensures { picture.new.picture ≡ painter self.now.setup self.now.state.windows }
+    {
+        paint_whole(&self.windows, assets, picture);
     }
 
     /// How many windows live, the desktop among them.

@@ -2,6 +2,7 @@
 #![tactic(auto)]
 
 mod colours;
+mod command;
 mod draft;
 mod engine;
 pub mod examples;
@@ -10,6 +11,7 @@ mod fields;
 mod line;
 mod listing;
 mod painting;
+mod plain;
 mod play;
 mod reader;
 mod reasons;

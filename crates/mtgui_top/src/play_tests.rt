@@ -76,13 +76,51 @@ fn scripts_are_played(rt: HostRuntime) -> Result<(), Fail> {
 }
 
 #[test]
+fn scripts_are_painted(rt: HostRuntime) -> Result<(), Fail> {
+    let alloc = rt.alloc();
+    let rows = [
+        (
+            FIRST,
+            0,
+            "frame 8 4\n000000*8\n000000*2 0000FF*3 000000*3\n=\n000000*8\n",
+        ),
+        // Nothing was painted by the calls: the picture is that of the windows alone.
+        (
+            "mtgui 1\nscreen 4 2\nbuffers 1\ndesktop 000001\nclass 1 0000FF\nend\nclass 2 00FF00\nend\n1 create 1 0 0 3 1 1\n2 create 1 2 -1 9 2 2\n1 create 1 0 0 0 1 1\n1 scan\n",
+            0,
+            "frame 4 2\n0000FF*2 00FF00*2\n000001*4\n",
+        ),
+        (
+            "mtgui 1\nscreen 1 1\nbuffers 1\ndesktop 123456\n",
+            0,
+            "frame 1 1\n123456\n",
+        ),
+        ("mtgui 2\n", 3, "fault 1 header\n"),
+    ];
+    for (text, expected, bytes) in rows {
+        let store = store_of(alloc, text, &[])?;
+        let (status, written) = done(alloc, "paint F", store, 10_000)?;
+        assert_eq!(rt; (status, written.as_str()), (expected, bytes));
+    }
+    let (status, written) = done(alloc, "paint G", store_of(alloc, FIRST, &[])?, 10_000)?;
+    assert_eq!(rt; (status, written.as_str()), (4, ""));
+    let (status, written) = done(alloc, "paint F", store_of(alloc, FIRST, &[])?, 12)?;
+    assert_eq!(rt; (status, written.as_str()), (5, "frame 8 4\n00"));
+    Ok(())
+}
+
+#[test]
 fn other_words_are_usage(rt: HostRuntime) -> Result<(), Fail> {
     let alloc = rt.alloc();
     let rows = [
         "",
         "play",
         "F",
-        "paint F",
+        "paint",
+        "Paint F",
+        "paint F F",
+        "paint -F",
+        "draw F",
         "Play F",
         "play F F",
         "play -F",

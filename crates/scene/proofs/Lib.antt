@@ -1,3 +1,5 @@
 pub mod SpotLemmas
 pub mod PlaceLemmas
 pub mod PaintLemmas
+pub mod DotLemmas
+pub mod PainterLemmas

@@ -54,7 +54,7 @@ mapped : {A B : Type 0} (f : A → B) (P : B → Type 0) (o : Option A) (y : B) 
 mapped f P None y all e = absurd cc
 mapped f P (Some x) y all e = let same : f x ≡ y = cc in subst P same (all x)
 
-shown_part : (b : Bool) (r : Rect) (p : Point) → has (cond b r no_points) p ≡ true → has r p ≡ true
+pub shown_part : (b : Bool) (r : Rect) (p : Point) → has (cond b r no_points) p ≡ true → has r p ≡ true
 shown_part true r p h = h
 shown_part false r p h = absurd (false≢true (sym (has-no_points p) ∙ h))
 

@@ -1,5 +1,5 @@
 -- Where the windows of a tree lie: each in its parent, and within its parent's clip.
-use Rattle.std.specs.Prelude.{ℕ, zero, suc, ◌*◌, ◌==◌, if◌then◌else◌, ℤ, pos, neg_ℤ, ◌+ℤ◌, ◌-ℤ◌, ◌≤ℤ◌, Bool, true, false, List, Option, Some, None, option_map, unwrap_or}
+use Rattle.std.specs.Prelude.{ℕ, zero, suc, ◌*◌, ◌==◌, if◌then◌else◌, ℤ, pos, neg_ℤ, ◌+ℤ◌, ◌-ℤ◌, ◌≤ℤ◌, Bool, true, false, List, Option, Some, None, option_map, unwrap_or, slice_get, ◌≡◌}
 use Rattle.gfx_base.specs.declared.point.Point.{Point}
 use Rattle.gfx_base.specs.declared.rect.Rect.{Rect}
 use Rattle.gfx_base.specs.Rects.{point_at, no_points, meet}
@@ -46,6 +46,10 @@ corner_in ws w = corner_of deepest_level (place_at ws) (place_of w)
 -- the clip rectangle of one of the windows
 abbrev pub clip_in : Rect → List Win → Win → Rect
 clip_in screen ws w = clip_of deepest_level screen (place_at ws) (place_of w)
+
+-- each window's clip stands in the window's place of a list
+abbrev pub AreClips : Rect → List Win → List Rect → Type 0
+AreClips screen ws clips = (i : ℕ) (w : Win) → slice_get ws i ≡ Some w → slice_get clips i ≡ Some (clip_in screen ws w)
 
 -- so many places can add up to the number
 abbrev pub IsSumOf : ℕ → ℤ → Type 0

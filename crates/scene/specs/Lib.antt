@@ -2,3 +2,4 @@ pub mod Places
 pub mod Clips
 pub mod Painting
 pub mod Damage
+pub mod Looks

@@ -14,7 +14,7 @@ use gfx_base::{Point, Rect};
 const LEVELS: u8 = 8;
 
 /// A rectangle without points.
-const NOWHERE: Rect = Rect {
+pub const NOWHERE: Rect = Rect {
     x0: 0,
     y0: 0,
     x1: -1,

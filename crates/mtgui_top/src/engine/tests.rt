@@ -1,62 +1,30 @@
-//! The picture after each `exec`, held against the painter's, which is told by asking each point.
+//! The picture after each `exec`, held against the painter's, which asks each point.
 
-ghost use Rattle.std.specs.Prelude.{◌≡◌, ◌<◌, vec_len, IfOk};
-ghost use Rattle.scene.specs.Painting.{painted};
-ghost use Rattle.mtgui_top.specs.Looks.{looks_of};
-ghost use Rattle.mtgui_top.specs.Machines.{setup_of, clips_of, ArePlain};
+ghost use Rattle.std.specs.Prelude.{◌<◌, ◌≤◌, vec_len, IfOk};
 
 use super::Engine;
 use crate::line::Call;
+use crate::plain::plain_assets;
 use crate::reply::Reply;
 use frame::Frame;
-use gfx_base::{Colour, Point, Rect};
-use scene::Win;
+use gfx_base::Colour;
 use std::alloc::Global;
 use std::test::*;
 
-/// The painter's colour at a point: from the back, each window there paints over what is behind it.
-fn painter_colour(
-    windows: &[Win],
-    clips: &[Rect],
-    classes: &[Colour],
-    shown: &Frame,
-    p: Point,
-) -> Colour
-    requires clips { clips.now ≡ clips_of (setup_of shown.now.picture classes.now) windows.now }
-    requires plain { ArePlain classes.now windows.now }
-    ensures { result ≡ painted (looks_of (setup_of shown.now.picture classes.now) windows.now) windows.now p }
-{
-    let mut colour = Colour::default();
-    for i in 0..windows.len() {
-        if clips[i].has(p) {
-            colour = classes[usize::from(windows[i].class)];
-        }
-    }
-    colour
-}
-
 impl Engine {
     /// Whether the shown picture is the painter's at each point.
-    fn shows_the_painter(&self) -> bool {
+    fn shows_the_painter(&self, alloc: Global) -> Result<bool, Fail> {
+        let assets = plain_assets(alloc, &self.classes)?;
+        let mut painted = Frame::new(alloc, self.shown.width(), self.shown.height())?;
+        self.paint(&assets, &mut painted);
         for y in 0..self.shown.height() {
             for x in 0..self.shown.width() {
-                let p = Point {
-                    x: i32::from(x),
-                    y: i32::from(y),
-                };
-                let painted = painter_colour(
-                    &self.windows,
-                    &self.clips,
-                    &self.classes,
-                    &self.shown,
-                    p,
-                );
-                if self.shown.get(x, y) != painted {
-                    return false;
+                if self.shown.get(x, y) != painted.get(x, y) {
+                    return Ok(false);
                 }
             }
         }
-        true
+        Ok(true)
     }
 }
 
@@ -65,7 +33,7 @@ fn colour(value: u32) -> Colour {
 }
 
 fn classes(alloc: Global) -> Result<Vec<Colour>, Fail>
-    ensures { IfOk result (λ classes. 0 < vec_len classes) }
+    ensures { IfOk result (λ classes. (0 < vec_len classes) × (vec_len classes ≤ 64)) }
 {
     let colours = [colour(1), colour(0xFF), colour(0xFF00), colour(0xFF_0000)];
     Ok(Vec::from_slice(alloc, &colours)?)
@@ -126,14 +94,14 @@ fn windows_over_windows(rt: HostRuntime) -> Result<(), Fail> {
         let mut engine = Engine::open(rt.alloc(), 8, 6, classes(rt.alloc())?)?;
         engine.apply(&first);
         engine.apply(&Call::Exec);
-        assert!(rt; engine.shows_the_painter(), "{name}: the first");
+        assert!(rt; engine.shows_the_painter(rt.alloc())?, "{name}: the first");
         engine.apply(&second);
         engine.apply(&Call::Exec);
-        assert!(rt; engine.shows_the_painter(), "{name}: the second");
+        assert!(rt; engine.shows_the_painter(rt.alloc())?, "{name}: the second");
         engine.apply(&create(2, 0, 2, 6, 3));
         engine.apply(&first);
         engine.apply(&Call::Exec);
-        assert!(rt; engine.shows_the_painter(), "{name}: all");
+        assert!(rt; engine.shows_the_painter(rt.alloc())?, "{name}: all");
         assert!(rt;
             engine.apply(&Call::Exec) == Reply::Jobs(0),
             "{name}: again"
@@ -156,6 +124,6 @@ fn as_many_windows_as_there_can_be_on_the_largest_screen(rt: HostRuntime) -> Res
     }
     assert_eq!(rt; engine.window_count(), 256);
     engine.apply(&Call::Exec);
-    assert!(rt; engine.shows_the_painter());
+    assert!(rt; engine.shows_the_painter(rt.alloc())?);
     Ok(())
 }

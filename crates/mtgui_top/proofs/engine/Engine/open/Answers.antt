@@ -2,7 +2,7 @@ use Rattle.std.proofs.Common.{◌≡◌, ℕ, ◌*◌, ◌++◌, List, [], ◌�
 use Rattle.std.proofs.lemmas.List.{length-replicate, get_or-replicate}
 use Rattle.std.proofs.lemmas.List.FromFn.{fill_by_all}
 use Rattle.scene.specs.declared.win.Win.{Win}
-use Rattle.mtgui_top.specs.Setups.{screen_with}
+use Rattle.scene.specs.Looks.{screen_with}
 use Rattle.mtgui_top.specs.States.{desktop_with}
 use Rattle.frame.specs.Pictures.{Picture, picture_of}
 use Rattle.mtgui_top.specs.Machines.{Machine, setup_of, starting}

@@ -1,0 +1,10 @@
+pub mod RowLemmas
+pub mod StripLemmas
+pub mod PaneLemmas
+pub mod FillLemmas
+pub mod ColumnLemmas
+pub mod CellLemmas
+pub mod TextLemmas
+pub mod PenLemmas
+pub mod ScreenLemmas
+pub mod SpanLemmas

@@ -1,0 +1,123 @@
+-- Lines that a pen puts on one row, point by point.
+use Rattle.std.proofs.Common.{◌≡◌, ℕ, ◌≤◌, Bool, true, false, ◌&&◌, ◌==◌, ℤ, pos, ◌+ℤ◌, ◌-ℤ◌, List, [], ◌∷◌, fold, Some, refl, sym, ap, ◌∙◌, arith}
+use Rattle.std.specs.Prelude.{unsigned_abs, Contains}
+use Rattle.std.specs.List.{list_any}
+use Rattle.std.proofs.lemmas.Bool.{and_parts, and_from, eqb-true, eq-eqb}
+use Rattle.std.proofs.lemmas.Int.{ints}
+use Rattle.std.proofs.lemmas.List.Folds.{Any-from_list_any, list_any-from_Any}
+use Rattle.gfx_base.specs.declared.point.Point.{Point}
+use Rattle.gfx_base.specs.declared.rect.Rect.{Rect}
+use Rattle.gfx_base.specs.Rects.{has, point_at}
+use Rattle.gfx_base.proofs.RectLemmas.{same_point}
+use Rattle.line_ink.specs.Lines.{is_on_line, points_of_line, clipped}
+use Rattle.line_ink.proofs.PointLemmas.{clipped-member}
+use Rattle.frame.specs.Pictures.{Picture, HasShape}
+use Rattle.frame.specs.Areas.{is_at}
+use Rattle.frame.proofs.PictureLaws.{has_shape-changed}
+use Rattle.paint_ops.specs.declared.pen.Pen.{Pen}
+use Rattle.paint_ops.specs.declared.strip.Strip.{Strip}
+use Rattle.paint_ops.specs.Operations.{on_points, seen_from}
+use Rattle.paint_ops.specs.Rows.{row_drawn}
+use Rattle.paint_ops.specs.Strips.{FitsIn, in_strip}
+use Rattle.paint_ops.specs.Pens.{IsReady, after_point}
+use Rattle.paint_ops.proofs.RowLemmas.{changed-is_at, row_drawn-nothing, row_drawn-more, row_drawn-part}
+use Rattle.paint_ops.proofs.StripLemmas.{same_test, in-parts, in-from}
+use Rattle.paint_ops.proofs.FillLemmas.{has-parts, has-from}
+
+-- ---- a pen that puts points
+
+-- a pen after a point
+abbrev pub pen_after : Pen → Point → Pen
+pen_after pen p = record pen { target = record pen.target { now = after_point pen.target.now pen.origin pen.y pen.colour p } }
+
+-- whether one of the points lies in the column
+abbrev pub has_column : ℤ → List Point → ℕ → Bool
+has_column origin points u = list_any (λ (p : Point). u == unsigned_abs (origin +ℤ p.x)) points
+
+pub pen-picture : (pen : Pen) (points : List Point) → HasShape pen.target.now.picture
+    → (fold pen_after pen points).target.now.picture ≡ row_drawn pen.target.now.picture pen.y (has_column pen.origin points) (λ _. Some pen.colour)
+pen-picture pen [] shape = sym (row_drawn-nothing pen.target.now.picture pen.y (λ _. false) (λ _. Some pen.colour) shape (λ u old _. refl))
+pen-picture pen (p ∷ points) shape =
+    let x = unsigned_abs (pen.origin +ℤ p.x) in
+    let picture = pen.target.now.picture in
+    let first = changed-is_at picture x pen.y pen.colour shape in
+    pen-picture (pen_after pen p) points (has_shape-changed picture (is_at x pen.y) (λ _ _. pen.colour) shape)
+    ∙ ap (λ (q : Picture). row_drawn q pen.y (has_column pen.origin points) (λ _. Some pen.colour)) first
+    ∙ row_drawn-more picture pen.y (λ u. u == x) (has_column pen.origin points) (has_column pen.origin (p ∷ points)) (λ _. Some pen.colour) shape (λ u _. refl)
+
+pub pen-reference : (pen : Pen) (points : List Point) → (fold pen_after pen points).target.ghost_name ≡ pen.target.ghost_name
+pen-reference pen [] = refl
+pen-reference pen (p ∷ points) = pen-reference (pen_after pen p) points
+
+-- ---- the clipped points of a line
+
+-- an element that passes a test
+any-contains : {X : Type 0} (f : X → Bool) (xs : List X) (x : X) → Contains xs x → f x ≡ true → list_any f xs ≡ true
+any-contains f xs x h pass = list_any-from_Any f xs (h.0, x, h.1, h.2, pass)
+
+-- which element passes it
+any-element : {X : Type 0} (f : X → Bool) (xs : List X) → list_any f xs ≡ true → (x : X) × Contains xs x × (f x ≡ true)
+any-element f xs h = let a = Any-from_list_any f xs h in (a.1, (a.0, a.2, a.3), a.4)
+
+-- the clip of a strip, as it is seen from the origin
+abbrev pub clip_of : Strip → Point → Rect
+clip_of s origin = record { x0 = pos s.left -ℤ origin.x; y0 = pos s.y -ℤ origin.y; x1 = pos s.right -ℤ origin.x; y1 = pos s.y -ℤ origin.y }
+
+-- a point in the clip is that of its column
+seen_again : (s : Strip) (origin p : Point) (u : ℕ) → has (clip_of s origin) p ≡ true → u ≡ unsigned_abs (origin.x +ℤ p.x) → (p ≡ seen_from origin (point_at (pos u) (pos s.y))) × (s.left ≤ u) × (u ≤ s.right)
+seen_again s origin p u h e =
+    let b = has-parts (clip_of s origin) p.x p.y h in
+    let l = b.left in
+    let r = b.right in
+    let t = b.top in
+    let d = b.bottom in
+    (same_point p.x p.y (pos u -ℤ origin.x) (pos s.y -ℤ origin.y) (omega (arith, ints)) (omega (arith, ints)), omega (arith, ints), omega (arith, ints))
+
+-- the columns of a line's points in a strip
+pub has_column-line : (s : Strip) (a b origin : Point) (u : ℕ)
+    → has_column origin.x (clipped (clip_of s origin) (points_of_line a b)) u ≡ (in_strip s u && is_on_line a b (seen_from origin (point_at (pos u) (pos s.y))))
+has_column-line s a b origin u =
+    let points = clipped (clip_of s origin) (points_of_line a b) in
+    let p = seen_from origin (point_at (pos u) (pos s.y)) in
+    let here = λ (q : Point). u == unsigned_abs (origin.x +ℤ q.x) in
+    same_test _ _
+    (λ h. let found = any-element here points h in
+    let q = found.0 in
+    let is = (clipped-member (clip_of s origin) a b q).0 found.1 in
+    let again = seen_again s origin q u is.1 (eqb-true u (unsigned_abs (origin.x +ℤ q.x)) found.2) in
+    and_from _ _ (in-from s.left s.right u again.1 again.2) (ap (is_on_line a b) (sym again.0) ∙ is.0))
+    (λ h. let both = and_parts (in_strip s u) (is_on_line a b p) h in
+    let w = in-parts s.left s.right u both.0 in
+    let inside = has-from (clip_of s origin) p.x p.y (omega (arith, ints)) (omega (arith, ints)) (omega (arith, ints)) (omega (arith, ints)) in
+    any-contains here points p ((clipped-member (clip_of s origin) a b p).1 (both.1, inside)) (eq-eqb u (unsigned_abs (origin.x +ℤ p.x)) (omega (arith, ints))))
+
+-- what a pen leaves of a line
+pub record IsInked (pen out : Pen) (s : Strip) (a b origin : Point) : Type 0 where
+  pub reference : pen.target.ghost_name ≡ out.target.ghost_name
+  pub picture : out.target.now.picture ≡ row_drawn pen.target.now.picture s.y (in_strip s) (λ u. on_points (is_on_line a b (seen_from origin (point_at (pos u) (pos s.y)))) pen.colour)
+
+pub inked : (pen out : Pen) (s : Strip) (a b origin : Point) (clip : Rect) → out ≡ fold pen_after pen (clipped clip (points_of_line a b)) → clip ≡ clip_of s origin → pen.origin ≡ origin.x → pen.y ≡ s.y → HasShape pen.target.now.picture
+    → IsInked pen out s a b origin
+inked pen out s a b origin clip walked same at row shape =
+    let points = clipped (clip_of s origin) (points_of_line a b) in
+    let is : out ≡ fold pen_after pen points = rw (← same) walked in
+    record {
+      reference = sym (ap (λ (q : Pen). q.target.ghost_name) is ∙ pen-reference pen points);
+      picture =
+          ap (λ (q : Pen). q.target.now.picture) is
+          ∙ pen-picture pen points shape
+          ∙ rw (row, at) (row_drawn-part pen.target.now.picture s.y pen.colour (has_column origin.x points) (in_strip s) (λ u. is_on_line a b (seen_from origin (point_at (pos u) (pos s.y)))) shape (λ u _. has_column-line s a b origin u));
+    }
+
+-- the points of the clip may be put
+pub clip-ready : (p : Picture) (s : Strip) (origin : Point) (clip : Rect) (o : ℤ) (q : Point) → clip ≡ clip_of s origin → o ≡ origin.x → FitsIn p s → has clip q ≡ true → IsReady p o s.y q
+clip-ready p s origin clip o q same at fits h =
+    let b = has-parts (clip_of s origin) q.x q.y (rw same at h) in
+    let l = b.left in
+    let r = b.right in
+    record {
+      row = fits.row;
+      not_too_wide = fits.shape.most_width;
+      not_left = omega (arith, ints);
+      not_right = omega (arith, ints, fits.within);
+    }

@@ -1,0 +1,20 @@
+-- Strips: some neighbouring columns of one row.
+use Rattle.std.specs.Prelude.{ℕ, ◌≤◌, ◌<◌, Bool, false, ◌&&◌, nat_le, Option, Some, None}
+use Rattle.frame.specs.Pictures.{Picture, HasShape}
+use Rattle.paint_ops.specs.declared.strip.Strip.{Strip}
+
+-- whether the column belongs to the strip
+abbrev pub in_strip : Strip → ℕ → Bool
+in_strip s u = nat_le s.left u && nat_le u s.right
+
+-- the same, where there may be no strip
+abbrev pub in_some_strip : Option Strip → ℕ → Bool
+in_some_strip None u = false
+in_some_strip (Some s) u = in_strip s u
+
+-- the strip has columns, and they lie in the picture's row of its number
+pub record FitsIn (p : Picture) (s : Strip) : Type 0 where
+  pub shape : HasShape p
+  pub some : s.left ≤ s.right
+  pub within : s.right < p.width
+  pub row : s.y < p.height

@@ -1,0 +1,13 @@
+-- Spans of a row, as sets of columns.
+use Rattle.std.specs.Prelude.{ℤ, Bool, List}
+use Rattle.std.specs.List.{list_any}
+use Rattle.gfx_base.specs.Range.{is_within}
+use Rattle.region.specs.declared.span.Span.{Span}
+
+-- whether the column lies in the span
+abbrev pub in_span : Span → ℤ → Bool
+in_span span x = is_within span.x0 span.x1 x
+
+-- whether it lies in one of the spans
+abbrev pub in_spans : List Span → ℤ → Bool
+in_spans spans x = list_any (λ span. in_span span x) spans
