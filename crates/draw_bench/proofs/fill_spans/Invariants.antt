@@ -1,0 +1,8 @@
+use Rattle.std.proofs.Common.{◌≡◌}
+use Rattle.draw_bench.proofs.fill_spans.Given as goal
+
+abbrev pub invariant-loop-y : goal.invariant-loop-y
+invariant-loop-y l = record {
+  width : l.target.picture.width ≡ 1024;
+  height : l.target.picture.height ≡ 768;
+}
