@@ -353,6 +353,40 @@ fn draws(alloc: Global, op: &Op, window: &Window, spans: &[Span]) -> Result<bool
 
 const ALL: Span = Span { x0: 0, x1: 11 };
 
+/// A window of 6 by 5 points, each of whose values is its own number.
+fn counting_window() -> Window {
+    Window {
+        values: [0, 1, 2, 3, 4, 5, 6, 7, 8, 9, 10, 11, 12, 13, 14, 15],
+        ..window_at(1, 2)
+    }
+}
+
+/// Each operation but a number, with coordinates that are the value of this number.
+fn operations_at(value: u8) -> [Op; 7] {
+    let v = from(Base::Value(value), 0);
+    let zero = plain(0);
+    [
+        Op::Fill(zero, zero, v, v, red()),
+        Op::Frame(zero, zero, v, v, red()),
+        Op::HLine(zero, v, v, red()),
+        Op::VLine(v, zero, v, red()),
+        Op::Line(zero, v, v, zero, red()),
+        Op::Bitmap(0, v, zero),
+        Op::Text(0, v, zero, red(), 0),
+    ]
+}
+
+#[test]
+fn each_value_is_a_base(rt: HostRuntime) -> Result<(), Fail> {
+    let window = counting_window();
+    for value in 0..16 {
+        for op in operations_at(value) {
+            assert!(rt; draws(rt.alloc(), &op, &window, &[ALL])?, "{value}: {op:?}");
+        }
+    }
+    Ok(())
+}
+
 #[test]
 fn shapes_at_each_base(rt: HostRuntime) -> Result<(), Fail> {
     let (w, h) = (Base::Width, Base::Height);
@@ -605,16 +639,15 @@ fn are_alike(a: &Frame, b: &Frame) -> bool {
 }
 
 /// Whether two operations draw the same points.
-fn draw_alike(alloc: Global, a: &Op, b: &Op) -> Result<bool, Fail> {
+fn draw_alike(alloc: Global, window: &Window, a: &Op, b: &Op) -> Result<bool, Fail> {
     let assets = assets_of(alloc)?;
     let mut first = Frame::new(alloc, 24, 4)?;
     let mut second = Frame::new(alloc, 24, 4)?;
     let spans = [Span { x0: 0, x1: 23 }];
-    let window = window_at(2, 1);
-    if !draw_rows(a, &window, &spans, &assets, &mut first) {
+    if !draw_rows(a, window, &spans, &assets, &mut first) {
         return Ok(false);
     }
-    if !draw_rows(b, &window, &spans, &assets, &mut second) {
+    if !draw_rows(b, window, &spans, &assets, &mut second) {
         return Ok(false);
     }
     Ok(are_alike(&first, &second))
@@ -637,7 +670,24 @@ fn numbers_are_drawn_as_their_digits(rt: HostRuntime) -> Result<(), Fail> {
     for (num, string) in cases {
         let number = Op::Number(0, plain(1), plain(1), red(), num);
         let text = Op::Text(0, plain(1), plain(1), red(), string);
-        assert!(rt; draw_alike(rt.alloc(), &number, &text)?, "{num:?}");
+        assert!(rt;
+            draw_alike(rt.alloc(), &window_at(2, 1), &number, &text)?,
+            "{num:?}"
+        );
+    }
+    Ok(())
+}
+
+#[test]
+fn a_number_is_that_of_its_own_value(rt: HostRuntime) -> Result<(), Fail> {
+    let window = counting_window();
+    let text = Op::Text(0, plain(1), plain(1), red(), 3);
+    let mut minus = 0i16;
+    for value in 0..16 {
+        let num = from(Base::Value(value), minus);
+        let number = Op::Number(0, plain(1), plain(1), red(), num);
+        assert!(rt; draw_alike(rt.alloc(), &window, &number, &text)?, "{num:?}");
+        minus = minus.wrapping_sub(1);
     }
     Ok(())
 }
