@@ -361,9 +361,14 @@ fn counting_window() -> Window {
     }
 }
 
-/// Each operation but a number, with coordinates that are the value of this number.
+/// The coordinate that is this sum in a counting window, and another one if the wrong value is taken.
+fn sum_from(value: u8, sum: i16) -> Num {
+    from(Base::Value(value), sum.wrapping_sub(i16::from(value)))
+}
+
+/// Each operation but a number, with coordinates that come from the value of this number.
 fn operations_at(value: u8) -> [Op; 7] {
-    let v = from(Base::Value(value), 0);
+    let v = sum_from(value, 3);
     let zero = plain(0);
     [
         Op::Fill(zero, zero, v, v, red()),
@@ -682,12 +687,10 @@ fn numbers_are_drawn_as_their_digits(rt: HostRuntime) -> Result<(), Fail> {
 fn a_number_is_that_of_its_own_value(rt: HostRuntime) -> Result<(), Fail> {
     let window = counting_window();
     let text = Op::Text(0, plain(1), plain(1), red(), 3);
-    let mut minus = 0i16;
     for value in 0..16 {
-        let num = from(Base::Value(value), minus);
+        let num = sum_from(value, 0);
         let number = Op::Number(0, plain(1), plain(1), red(), num);
         assert!(rt; draw_alike(rt.alloc(), &window, &number, &text)?, "{num:?}");
-        minus = minus.wrapping_sub(1);
     }
     Ok(())
 }
