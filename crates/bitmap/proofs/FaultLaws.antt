@@ -7,7 +7,8 @@ use Rattle.std.proofs.lemmas.Bool.Decides.{nat_tests}
 use Rattle.std.proofs.lemmas.List.{append-nil, length-append, length-take, take_all, take_at, take-append-le, take-take, same_from_push}
 use Rattle.std.proofs.lemmas.List.Concat.{flat_map-append}
 use Rattle.spelling.specs.Parts.{lines_of}
-use Rattle.spelling.proofs.Spellings.{chosen, some_is, named}
+use Rattle.spelling.proofs.CallerLemmas.{chosen, named}
+use Rattle.std.proofs.lemmas.Option.{same_Some}
 use Rattle.bitmap.specs.declared.fault.BitmapWhy.{BitmapWhy}
 use Rattle.bitmap.specs.declared.fault.BitmapWhy.TheVariants as why
 use Rattle.bitmap.specs.declared.fault.BitmapFault.{BitmapFault}
@@ -178,16 +179,16 @@ after_end width height body line next left points so end =
     (wrong width height body all next left why.End front (so.spelled ∙ sym (append_assoc so.lines (line ∷ []) (next ∷ left))) (λ one. let within = front_within width height (all ++ next ∷ []) one in absurd (omega arith)) (end_reason height (length all) (omega arith))))
 
 pub late : (width height : ℕ) (body : List ℕ) (left : List (List ℕ)) (points : List (Option ℕ)) (fault : BitmapFault) → HasRead width height body left points → fault_after height left ≡ Some fault → IsFault width height body fault
-late width height body [] points fault so e = subst (IsFault width height body) (some_is (fault_at (height + 1) why.End) fault e) (stopped width height height body points so (omega arith))
+late width height body [] points fault so e = subst (IsFault width height body) (same_Some (fault_at (height + 1) why.End) fault e) (stopped width height height body points so (omega arith))
 late width height body (line ∷ []) points fault so e =
     elim (chosen (bytes_eq line (codes "end")) None (Some (fault_at (height + 1) why.End)) (Some fault) e) [
       | inl end ↦ absurd (cc end.1)
-      | inr other ↦ subst (IsFault width height body) (some_is (fault_at (height + 1) why.End) fault other.1) (other_end width height body line [] points so other.0)
+      | inr other ↦ subst (IsFault width height body) (same_Some (fault_at (height + 1) why.End) fault other.1) (other_end width height body line [] points so other.0)
     ]
 late width height body (line ∷ next ∷ left) points fault so e =
     elim (chosen (bytes_eq line (codes "end")) (Some (fault_at (height + 2) why.End)) (Some (fault_at (height + 1) why.End)) (Some fault) e) [
-      | inl end ↦ subst (IsFault width height body) (some_is (fault_at (height + 2) why.End) fault end.1) (after_end width height body line next left points so end.0)
-      | inr other ↦ subst (IsFault width height body) (some_is (fault_at (height + 1) why.End) fault other.1) (other_end width height body line (next ∷ left) points so other.0)
+      | inl end ↦ subst (IsFault width height body) (same_Some (fault_at (height + 2) why.End) fault end.1) (after_end width height body line next left points so end.0)
+      | inr other ↦ subst (IsFault width height body) (same_Some (fault_at (height + 1) why.End) fault other.1) (other_end width height body line (next ∷ left) points so other.0)
     ]
 
 -- ---- or is a body

@@ -1,5 +1,5 @@
-pub mod RunLaws
-pub mod RowLaws
-pub mod FaultLaws
-pub mod PushLemmas
-pub mod ExampleLaws
+mod ExampleLaws
+mod FaultLaws
+mod PushLemmas
+mod RowLaws
+mod RunLaws

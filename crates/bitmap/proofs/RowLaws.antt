@@ -7,8 +7,9 @@ use Rattle.std.proofs.lemmas.Option.{cond_some}
 use Rattle.std.proofs.lemmas.List.{length-append, length-map, length-replicate}
 use Rattle.std.proofs.lemmas.List.Splits.{length-slice_split}
 use Rattle.spelling.specs.Words.{words_of, text_of_words}
-use Rattle.spelling.proofs.Parts.{IsWhole, parts-join}
-use Rattle.spelling.proofs.Spellings.{bind_some, chosen, some_is, line_from_words}
+use Rattle.spelling.proofs.CallerLemmas.{IsWhole, parts-join}
+use Rattle.spelling.proofs.CallerLemmas.{bind_some, chosen, line_from_words}
+use Rattle.std.proofs.lemmas.Option.{same_Some}
 use Rattle.bitmap.specs.Texts.{Run, IsRun, text_of_run, points_of_run, SpellsRow, AreRows}
 use Rattle.bitmap.specs.Reading.{run_of, onto, points_of, row_of}
 use Rattle.bitmap.proofs.RunLaws.{run_takes, run_again, run_whole}
@@ -25,7 +26,7 @@ record HasRuns (room : ℕ) (words : List (List ℕ)) (points : List (Option ℕ
 
 onto_some : (first : List (Option ℕ)) (o : Option (List (Option ℕ))) (points : List (Option ℕ)) → onto first o ≡ Some points → (more : List (Option ℕ)) × (o ≡ Some more) × (first ++ more ≡ points)
 onto_some first None points e = absurd cc
-onto_some first (Some more) points e = (more, refl, some_is (first ++ more) points e)
+onto_some first (Some more) points e = (more, refl, same_Some (first ++ more) points e)
 
 words_take : (words : List (List ℕ)) (room : ℕ) (points : List (Option ℕ)) → points_of room words ≡ Some points → HasRuns room words points
 words_take [] room points e =
@@ -112,7 +113,7 @@ row_again width line row is wide =
 
 -- a line is one row's
 pub one_row : (width : ℕ) (line : List ℕ) (row other : List (Option ℕ)) → SpellsRow line row → length row ≡ width → SpellsRow line other → length other ≡ width → row ≡ other
-one_row width line row other is wide also wide_too = some_is row other (sym (row_again width line row is wide) ∙ row_again width line other also wide_too)
+one_row width line row other is wide also wide_too = same_Some row other (sym (row_again width line row is wide) ∙ row_again width line other also wide_too)
 
 -- ---- several rows
 

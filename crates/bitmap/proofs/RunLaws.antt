@@ -10,8 +10,9 @@ use Rattle.std.proofs.lemmas.List.Splits.{join_with_byte-slice_split, length-sli
 use Rattle.spelling.specs.Digits.{hex_digit, hex_colour}
 use Rattle.spelling.specs.Parts.{parts}
 use Rattle.spelling.specs.Words.{◌>>=◌, natural_in, colour_of}
-use Rattle.spelling.proofs.Parts.{IsWhole}
-use Rattle.spelling.proofs.Spellings.{bind_some, chosen, some_is, named, natural_in_takes, natural_in_again, colour_takes, colour_again, colour_no_dash, colour_whole, natural_whole}
+use Rattle.spelling.proofs.CallerLemmas.{IsWhole}
+use Rattle.spelling.proofs.CallerLemmas.{bind_some, chosen, named, natural_in_takes, natural_in_again, colour_takes, colour_again, colour_no_dash, colour_whole, natural_whole}
+use Rattle.std.proofs.lemmas.Option.{same_Some}
 use Rattle.bitmap.specs.Texts.{Run, IsRun, text_of_point, text_of_run}
 use Rattle.bitmap.specs.Reading.{point_from, point_of, count_of, run_of_parts, run_of}
 
@@ -24,10 +25,10 @@ pub point_takes : (word : List ℕ) (p : Option ℕ) → point_of word ≡ Some 
 unfolding point_of
 point_takes word p e =
     elim (chosen (bytes_eq word (codes "-")) (Some None) (colour_of word >>= λ c. Some (Some c)) (Some p) e) [
-      | inl dash ↦ subst (λ (q : Option ℕ). (word ≡ text_of_point q) × IsColour q) (some_is None p dash.1) (named word (codes "-") dash.0, tt)
+      | inl dash ↦ subst (λ (q : Option ℕ). (word ≡ text_of_point q) × IsColour q) (same_Some None p dash.1) (named word (codes "-") dash.0, tt)
       | inr other ↦
           let b = bind_some (colour_of word) (λ c. Some (Some c)) p other.1 in
-          subst (λ (q : Option ℕ). (word ≡ text_of_point q) × IsColour q) (some_is (Some b.0) p b.2) (colour_takes word b.0 b.1)
+          subst (λ (q : Option ℕ). (word ≡ text_of_point q) × IsColour q) (same_Some (Some b.0) p b.2) (colour_takes word b.0 b.1)
     ]
 
 pub point_again : (p : Option ℕ) → IfSome p (λ c. c < 2 ^ 24) → point_of (text_of_point p) ≡ Some p
@@ -62,7 +63,7 @@ abbrev run_with : Option ℕ → ℕ → Run
 run_with colour count = record { colour = colour; count = count }
 
 count_takes : (text : List ℕ) (p : Option ℕ) (times : List (List ℕ)) (n : ℕ) → text ≡ text_of_point p → count_of times ≡ Some n → (join_with_byte 42 (text ∷ times) ≡ text_of_run (run_with p n)) × (1 ≤ n) × (n ≤ 256)
-count_takes text p [] n is e = subst (λ (m : ℕ). (text ≡ text_of_run (run_with p m)) × (1 ≤ m) × (m ≤ 256)) (some_is 1 n e) (is, omega arith, omega arith)
+count_takes text p [] n is e = subst (λ (m : ℕ). (text ≡ text_of_run (run_with p m)) × (1 ≤ m) × (m ≤ 256)) (same_Some 1 n e) (is, omega arith, omega arith)
 count_takes text p (part ∷ more) n is e =
     let rest : List ℕ = join_with_byte 42 (part ∷ more) in
     let t = natural_in_takes 2 256 rest n e in
@@ -77,7 +78,7 @@ parts_take (text ∷ times) run e =
     let n = bind_some (count_of times) _ run p.2 in
     let point = point_takes text p.0 p.1 in
     let count = count_takes text p.0 times n.0 point.0 n.1 in
-    subst (λ (r : Run). (join_with_byte 42 (text ∷ times) ≡ text_of_run r) × IsRun r) (some_is (run_with p.0 n.0) run n.2) (count.0, record { colour = point.1; some = count.1; few = count.2 })
+    subst (λ (r : Run). (join_with_byte 42 (text ∷ times) ≡ text_of_run r) × IsRun r) (same_Some (run_with p.0 n.0) run n.2) (count.0, record { colour = point.1; some = count.1; few = count.2 })
 
 pub run_takes : (word : List ℕ) (run : Run) → run_of word ≡ Some run → (word ≡ text_of_run run) × IsRun run
 unfolding run_of

@@ -1,7 +1,8 @@
 -- Bitmaps as plain data, and their points.
 use Rattle.std.specs.Prelude.{◌≡◌, ℕ, ◌+◌, ◌*◌, ◌≤◌, List, length, Option, None, slice_index_or}
 
--- The sides, and the points row by row from the top, each row from the left. A point is its colour; none at a transparent one.
+-- The sides, and the points row by row from the top, each row from the left. A point is its colour;
+-- none at a transparent one.
 pub record Bitmap : Type 0 where
   pub width : ℕ
   pub height : ℕ

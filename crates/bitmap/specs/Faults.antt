@@ -39,14 +39,17 @@ IsCut height lines right reason = (right ≡ length lines) × (right ≤ height)
 
 -- with one line more they are no first lines of a bitmap
 abbrev pub IsWrong : ℕ → ℕ → List (List ℕ) → ℕ → BitmapWhy → Type 0
-IsWrong width height lines right reason = (right < length lines) × (IsFront width height (take (right + 1) lines) → ⊥) × (reason ≡ why_after height right)
+IsWrong width height lines right reason =
+    (right < length lines) × (IsFront width height (take (right + 1) lines) → ⊥)
+    × (reason ≡ why_after height right)
 
 -- so many lines are right, and the next one is wrong, or missing
 pub record IsFault (width height : ℕ) (body : List ℕ) (fault : BitmapFault) : Type 0 where
   pub right : ℕ
   pub counted : fault.line ≡ right + 1
   pub front : IsFront width height (take right (lines_of body))
-  pub wrong : IsCut height (lines_of body) right fault.why ⊎ IsWrong width height (lines_of body) right fault.why
+  pub wrong : IsCut height (lines_of body) right fault.why
+      ⊎ IsWrong width height (lines_of body) right fault.why
 
 -- a refusal tells the fault; of one for want of memory nothing is said
 abbrev pub IsRefused : ℕ → ℕ → List ℕ → BitmapRefused → Type 0

@@ -26,7 +26,8 @@ run_from run = record { colour = point_from run.value; count = run.count }
 
 -- the point that a word spells
 unfoldable pub point_of : List ℕ → Option (Option ℕ)
-point_of word = if bytes_eq word (codes "-") then Some None else (colour_of word >>= λ c. Some (Some c))
+point_of word =
+    if bytes_eq word (codes "-") then Some None else (colour_of word >>= λ c. Some (Some c))
 
 -- how many points, by what stands after the first `*`
 abbrev pub count_of : List (List ℕ) → Option ℕ
@@ -54,7 +55,9 @@ abbrev pub points_of : ℕ → List (List ℕ) → Option (List (Option ℕ))
 points_of room [] = if room == 0 then Some [] else None
 points_of room (word ∷ words) = do
   run ← run_of word
-  if nat_le run.count room then onto (points_of_run run) (points_of (room - run.count) words) else None
+  if nat_le run.count room
+      then onto (points_of_run run) (points_of (room - run.count) words)
+      else None
 
 -- the row that a line spells
 unfoldable pub row_of : ℕ → List ℕ → Option (List (Option ℕ))
@@ -62,14 +65,16 @@ row_of width line = points_of width (words_of line)
 
 -- what adding a row returned, and left
 abbrev pub Adds : Result (Unit {0}) LineError → List ℕ → List ℕ → Option (List (Option ℕ)) → Type 0
-Adds (Ok _) old new read = (row : List (Option ℕ)) × (read ≡ Some row) × (points_from new ≡ points_from old ++ row)
+Adds (Ok _) old new read =
+    (row : List (Option ℕ)) × (read ≡ Some row) × (points_from new ≡ points_from old ++ row)
 Adds (Err line_error.Memory) old new read = Unit {0}
 Adds (Err line_error.Wrong) old new read = read ≡ None
 
 -- ---- bodies
 
 -- so many rows were read, and these lines are left
-pub record HasRead (width many : ℕ) (body : List ℕ) (left : List (List ℕ)) (points : List (Option ℕ)) : Type 0 where
+pub record HasRead (width many : ℕ) (body : List ℕ) (left : List (List ℕ))
+    (points : List (Option ℕ)) : Type 0 where
   pub lines : List (List ℕ)
   pub rows : List (List (Option ℕ))
   pub count : length rows ≡ many
@@ -80,5 +85,8 @@ pub record HasRead (width many : ℕ) (body : List ℕ) (left : List (List ℕ))
 -- the fault of the lines after all rows
 abbrev pub fault_after : ℕ → List (List ℕ) → Option BitmapFault
 fault_after height [] = Some (record { line = height + 1; why = why.End })
-fault_after height (line ∷ []) = if bytes_eq line (codes "end") then None else Some (record { line = height + 1; why = why.End })
-fault_after height (line ∷ next ∷ lines) = if bytes_eq line (codes "end") then Some (record { line = height + 2; why = why.End }) else Some (record { line = height + 1; why = why.End })
+fault_after height (line ∷ []) =
+    if bytes_eq line (codes "end") then None else Some (record { line = height + 1; why = why.End })
+fault_after height (line ∷ next ∷ lines) =
+    if bytes_eq line (codes "end") then Some (record { line = height + 2; why = why.End })
+    else Some (record { line = height + 1; why = why.End })

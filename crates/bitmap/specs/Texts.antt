@@ -27,9 +27,12 @@ text_of_point (Some c) = hex_colour c
 
 -- `C` for one point, and `C*n` for more
 abbrev pub text_of_run : Run → List ℕ
-text_of_run run = if run.count == 1 then text_of_point run.colour else text_of_point run.colour ++ (codes "*" ++ decimal run.count)
+text_of_run run =
+    if run.count == 1 then text_of_point run.colour
+    else text_of_point run.colour ++ (codes "*" ++ decimal run.count)
 
--- the line has the runs of these points. They need not be the longest ones, so that points have several lines
+-- the line has the runs of these points. They need not be the longest ones, so that points have
+-- several lines
 pub record SpellsRow (line : List ℕ) (points : List (Option ℕ)) : Type 0 where
   pub runs : List Run
   pub some : 1 ≤ length runs
@@ -42,7 +45,8 @@ abbrev pub AreRows : ℕ → List (List ℕ) → List (List (Option ℕ)) → Ty
 AreRows width [] [] = Unit {0}
 AreRows width [] (row ∷ rows) = ⊥
 AreRows width (line ∷ lines) [] = ⊥
-AreRows width (line ∷ lines) (row ∷ rows) = SpellsRow line row × (length row ≡ width) × AreRows width lines rows
+AreRows width (line ∷ lines) (row ∷ rows) =
+    SpellsRow line row × (length row ≡ width) × AreRows width lines rows
 
 -- ---- bodies
 

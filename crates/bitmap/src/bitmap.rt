@@ -5,13 +5,14 @@ use gfx_base::{Colour, Memory};
 use std::alloc::Global;
 use std::marker::Model;
 
-/// A bitmap: points in columns and rows, each of a colour or transparent. It is 1 to 256 points wide and high.
+/// A bitmap: points in columns and rows, each of a colour or transparent. It is 1 to 256 points
+/// wide and high.
 #[derive(Drop)]
 pub struct Bitmap {
     pub(crate) width: u16,
     pub(crate) height: u16,
-    /// The values of the colours, row by row from the top. One above the last colour stands for a transparent point, so that
-    /// each point takes four bytes.
+    /// The values of the colours, row by row from the top. One above the last colour stands for a
+    /// transparent point, so that each point takes four bytes.
     pub(crate) points: Vec<u32>,
 }
 
@@ -21,9 +22,14 @@ impl Model for Bitmap {
 
     ghost Value = { Content };
 
-    ghost view = { λ b. record { width = b.width; height = b.height; points = points_from b.points.items } };
+    ghost view = { λ b. record {
+      width = b.width;
+      height = b.height;
+      points = points_from b.points.items;
+    } };
 
-    ghost invariant = { λ b. IsBitmap (record { width = b.width; height = b.height; points = points_from b.points.items }) };
+    ghost invariant = { λ b. IsBitmap
+        (record { width = b.width; height = b.height; points = points_from b.points.items }) };
 }
 
 impl Bitmap {
@@ -42,8 +48,8 @@ impl Bitmap {
         self.height
     }
 
-    /// The colour of the point in column `x` and row `y`, both counted from 0 at the upper left corner, or `None` where it is
-    /// transparent. The point lies inside.
+    /// The colour of the point in column `x` and row `y`, both counted from 0 at the upper left
+    /// corner, or `None` where it is transparent. The point lies inside.
     pub fn at(&self, x: u16, y: u16) -> Option<Colour>
         requires inside { (x < self.now.width) × (y < self.now.height) }
         ensures { result ≡ colour_at self.now x y }

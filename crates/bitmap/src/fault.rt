@@ -8,7 +8,8 @@ pub enum BitmapWhy {
     /// It stands where a row has to stand, and is no row of the bitmap's width.
     #[error("no row of the bitmap")]
     Row,
-    /// The body stops before it, it stands where the line `end` has to stand and is another one, or it follows that line.
+    /// The body stops before it, it stands where the line `end` has to stand and is another one, or
+    /// it follows that line.
     #[error("the end is missing, or isn't the last line")]
     End,
 }

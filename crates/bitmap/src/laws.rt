@@ -1,5 +1,5 @@
-//! Laws of the definitions, each as the contract of a function that does nothing: a body is a bitmap's or has a fault, and
-//! what the texts of a small bitmap are.
+//! Laws of the definitions, each as the contract of a function that does nothing: a body is a
+//! bitmap's or has a fault, and what the texts of a small bitmap are.
 
 ghost use Rattle.std.specs.Prelude.{◌≡◌, ◌⊎◌, ℕ, List, Some, None};
 ghost use Rattle.bitmap.specs.declared.fault.BitmapFault.{BitmapFault};
@@ -10,17 +10,22 @@ ghost use Rattle.bitmap.specs.Examples.{dotted, dotted_text, other_text, narrow_
 
 /// Does nothing. At any sides a body is a bitmap's or has a fault, and not both.
 pub fn either()
-    ensures some { (width height : ℕ) (body : List ℕ) → ((b : Bitmap) × IsBody width height body b) ⊎ ((fault : BitmapFault) × IsFault width height body fault) }
-    ensures not_both { (width height : ℕ) (body : List ℕ) (b : Bitmap) (fault : BitmapFault) → IsBody width height body b → IsFault width height body fault → ⊥ }
+    ensures some { (width height : ℕ) (body : List ℕ) → ((b : Bitmap) × IsBody width height body b)
+        ⊎ ((fault : BitmapFault) × IsFault width height body fault) }
+    ensures not_both { (width height : ℕ) (body : List ℕ) (b : Bitmap) (fault : BitmapFault)
+        → IsBody width height body b → IsFault width height body fault → ⊥ }
 {}
 
 /// Does nothing. A body is one bitmap's, and has one fault.
 pub fn one()
-    ensures bitmap { (width height : ℕ) (body : List ℕ) (a b : Bitmap) → IsBody width height body a → IsBody width height body b → a ≡ b }
-    ensures fault { (width height : ℕ) (body : List ℕ) (a b : BitmapFault) → IsFault width height body a → IsFault width height body b → a ≡ b }
+    ensures bitmap { (width height : ℕ) (body : List ℕ) (a b : Bitmap) → IsBody width height body a
+        → IsBody width height body b → a ≡ b }
+    ensures fault { (width height : ℕ) (body : List ℕ) (a b : BitmapFault)
+        → IsFault width height body a → IsFault width height body b → a ≡ b }
 {}
 
-/// Does nothing. Its clauses say what a bitmap of three points is, what two of its texts are, and two faults.
+/// Does nothing. Its clauses say what a bitmap of three points is, what two of its texts are, and
+/// two faults.
 pub fn bitmap_in_numbers()
     ensures text { IsBody 3 1 dotted_text dotted }
     ensures other_text { IsBody 3 1 other_text dotted }

@@ -9,6 +9,3 @@ mod row;
 
 pub use crate::bitmap::Bitmap;
 pub use fault::{BitmapFault, BitmapRefused, BitmapWhy};
-
-#[cfg(test)]
-mod tests;

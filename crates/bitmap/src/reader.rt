@@ -28,7 +28,9 @@ fn read_rows<'b>(
 ) -> Result<&'b [u8], BitmapRefused>
     requires sides { (w ≤ 256) × (h ≤ 256) }
     requires none { vec_len points.old ≡ 0 }
-    ensures { MatchResult result (λ rest. HasRead w h body.now (lines_of rest.now) (points_from points.new.items)) (IsRefused w h body.now) }
+    ensures { MatchResult result
+        (λ rest. HasRead w h body.now (lines_of rest.now) (points_from points.new.items))
+        (IsRefused w h body.now) }
 {
     let mut rest = body;
     for y in 0..h {
@@ -70,14 +72,16 @@ fn fault_after(h: u16, rest: &[u8]) -> Option<BitmapFault>
 }
 
 impl Bitmap {
-    /// The bitmap that a body says: `h` rows of `w` points, from the top, and then the line `end`. A row is a line of runs,
-    /// parted by single spaces. A run is `C` for one point and `C*n` for `n` points, from 2 to 256, where `C` is a colour of
-    /// six digits `0` to `9` and `A` to `F`, or `-` for transparent points. Both sides are from 1 to 256 points. The points
-    /// are kept in one allocation.
+    /// The bitmap that a body says: `h` rows of `w` points, from the top, and then the line `end`.
+    /// A row is a line of runs, parted by single spaces. A run is `C` for one point and `C*n` for
+    /// `n` points, from 2 to 256, where `C` is a colour of six digits `0` to `9` and `A` to `F`, or
+    /// `-` for transparent points. Both sides are from 1 to 256 points. The points are kept in one
+    /// allocation.
     pub fn read(alloc: Global, w: u16, h: u16, body: &[u8]) -> Result<Bitmap, BitmapRefused>
         requires width { (1 ≤ w) × (w ≤ 256) }
         requires height { (1 ≤ h) × (h ≤ 256) }
-        // What is read is the body's bitmap; otherwise its first fault is told, unless memory runs out.
+        // What is read is the body's bitmap; otherwise its first fault is told, unless memory runs
+        // out.
         ensures { MatchResult result (λ b. IsBody w h body.now b) (IsRefused w h body.now) }
     {
         let count = usize::from(h) * usize::from(w);

@@ -1,5 +1,6 @@
-//! Draws one operation again and again, so that `bench/draw` can time it. The words are the operation's name and how often it
-//! is drawn; `span` fills all rows by whole spans, without an operation.
+//! Draws one operation again and again, so that `bench/draw` can time it. The words are the
+//! operation's name and how often it is drawn; `span` fills all rows by whole spans, without an
+//! operation.
 #![tactic(auto)]
 
 ghost use Rattle.std.specs.Prelude.{◌≡◌, ◌≤◌, ◌<◌, length, IfSome, IfOk};
@@ -57,7 +58,8 @@ fn last(base: Base) -> Num
 
 fn case_of(name: &str) -> Option<Case>
     ensures rows { IfSome result (λ case. case.rows ≤ 768) }
-    ensures operation { (assets : Content) → 1 ≤ length assets.fonts → 1 ≤ length assets.bitmaps → 1 ≤ length assets.strings → IfSome result (λ case. IsOperation assets case.op) }
+    ensures operation { (assets : Content) → 1 ≤ length assets.fonts → 1 ≤ length assets.bitmaps
+        → 1 ≤ length assets.strings → IfSome result (λ case. IsOperation assets case.op) }
 {
     let (x0, y0) = (plain(0), plain(0));
     let (x1, y1) = (last(Base::Width), last(Base::Height));
@@ -119,7 +121,9 @@ fn bitmap(alloc: Global) -> Option<Bitmap> {
 /// One font, one bitmap, and a string of as many letters as the screen is wide.
 fn assets(alloc: Global) -> Option<Assets>
     ensures sound { IfSome result IsSound }
-    ensures one { IfSome result (λ assets. (1 ≤ length assets.fonts) × (1 ≤ length assets.bitmaps) × (1 ≤ length assets.strings)) }
+    ensures one { IfSome result
+        (λ assets. (1 ≤ length assets.fonts) × (1 ≤ length assets.bitmaps)
+        × (1 ≤ length assets.strings)) }
 {
     let mut fonts = Vec::with_capacity(alloc, 1).ok()?;
     fonts.push_reserved(font(alloc)?);
@@ -180,7 +184,8 @@ fn fill_spans(target: &mut Frame)
 /// Draws what the name says so often, and tells whether it is a name.
 fn draw_named(name: &str, rounds: u32, assets: &Assets, target: &mut Frame) -> bool
     requires sound { IsSound assets.now }
-    requires one { (1 ≤ length assets.now.fonts) × (1 ≤ length assets.now.bitmaps) × (1 ≤ length assets.now.strings) }
+    requires one { (1 ≤ length assets.now.fonts) × (1 ≤ length assets.now.bitmaps)
+        × (1 ≤ length assets.now.strings) }
     requires width { target.old.picture.width ≡ 1024 }
     requires height { target.old.picture.height ≡ 768 }
     ensures width { target.new.picture.width ≡ 1024 }
@@ -201,7 +206,8 @@ fn draw_named(name: &str, rounds: u32, assets: &Assets, target: &mut Frame) -> b
     true
 }
 
-/// Does what the words say, and gives the colour of the first point. `None` where memory runs out or the words are others.
+/// Does what the words say, and gives the colour of the first point. `None` where memory runs out
+/// or the words are others.
 fn run(rt: &HostRuntime) -> Option<u32> {
     let alloc = rt.alloc();
     let mut words = env::args(rt).ok()?.skip(1);

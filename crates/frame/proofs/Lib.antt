@@ -1,4 +1,5 @@
-pub mod PictureLaws
-pub mod SpanLemmas
-pub mod TileLemmas
-pub mod CountLaws
+pub mod CallerLemmas
+mod CountLaws
+mod PictureLaws
+mod SpanLemmas
+mod TileLemmas

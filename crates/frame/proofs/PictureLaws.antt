@@ -13,17 +13,17 @@ same_parts : (w h v k : ℕ) (ps qs : List ℕ) → w ≡ v → h ≡ k → ps �
 same_parts w h v k ps qs e f g = rw (e, f, g) refl
 
 -- the colour at a place is the colour of the point in its column and row
-place_of : (p : Picture) (i : ℕ) → get_or p.points i 0 ≡ colour_at p (i % p.width) (i / p.width)
-place_of p i = ap (λ (k : ℕ). get_or p.points k 0) (sym (div-add-mod' i p.width))
+colour_at-place : (p : Picture) (i : ℕ) → get_or p.points i 0 ≡ colour_at p (i % p.width) (i / p.width)
+colour_at-place p i = ap (λ (k : ℕ). get_or p.points k 0) (sym (div-add-mod' i p.width))
 
 -- pictures of the same sides are equal where they agree at each point inside
 pub equal_by_points : (p q : Picture) → HasShape p → HasShape q → p.width ≡ q.width → p.height ≡ q.height → ((x y : ℕ) → x < p.width → y < p.height → colour_at p x y ≡ colour_at q x y) → p ≡ q
 equal_by_points p q shape other same_width same_height same =
     let count : length p.points ≡ length q.points = shape.count_is ∙ rw (same_height, same_width) (sym other.count_is) in
     let points : p.points ≡ q.points = ext_get_or 0 p.points q.points count (λ i lt.
-    place_of p i
+    colour_at-place p i
     ∙ same (i % p.width) (i / p.width) (mod_below i p.width shape.some_width) (div_below i p.width p.height shape.some_width (rw shape.count_is at lt))
-    ∙ rw same_width (sym (place_of q i))) in
+    ∙ rw same_width (sym (colour_at-place q i))) in
     same_parts _ _ _ _ _ _ same_width same_height points
 
 -- the picture of a function has the function's colour at each point
@@ -91,16 +91,16 @@ pub changed-none : (p : Picture) (here : ℕ → ℕ → Bool) (colour : ℕ →
 changed-none p here colour shape none = sym (changed-from_points p p here colour shape shape refl refl (λ x y x_in y_in. rw (none x y x_in y_in) refl))
 
 -- a choice depends on its first value only where the test holds
-chosen : (test : Bool) (a b old : ℕ) → (test ≡ true → a ≡ b) → cond test a old ≡ cond test b old
-chosen true a b old same = same refl
-chosen false a b old same = refl
+cond-same : (test : Bool) (a b old : ℕ) → (test ≡ true → a ≡ b) → cond test a old ≡ cond test b old
+cond-same true a b old same = same refl
+cond-same false a b old same = refl
 
 -- tests and colours that agree inside make the same change
 pub changed-same : (p : Picture) (here there : ℕ → ℕ → Bool) (colour other : ℕ → ℕ → ℕ) → HasShape p → ((x y : ℕ) → x < p.width → y < p.height → here x y ≡ there x y) → ((x y : ℕ) → x < p.width → y < p.height → there x y ≡ true → colour x y ≡ other x y)
     → changed p here colour ≡ changed p there other
 changed-same p here there colour other shape same_test same_colour =
     changed-from_points p (changed p here colour) there other shape (has_shape-changed p here colour shape) refl refl (λ x y x_in y_in.
-    colour_at-changed p here colour x y x_in y_in ∙ rw (same_test x y x_in y_in) (chosen (there x y) (colour x y) (other x y) (colour_at p x y) (same_colour x y x_in y_in)))
+    colour_at-changed p here colour x y x_in y_in ∙ rw (same_test x y x_in y_in) (cond-same (there x y) (colour x y) (other x y) (colour_at p x y) (same_colour x y x_in y_in)))
 
 last_choice : (second first : Bool) (a b old : ℕ) → cond second a (cond first b old) ≡ cond (second || first) (cond second a b) old
 last_choice true first a b old = refl

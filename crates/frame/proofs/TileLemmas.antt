@@ -1,6 +1,7 @@
 -- A tile that is written row by row.
 use Rattle.std.proofs.Common.{◌≡◌, ◌≢◌, ℕ, ◌+◌, ◌-◌, ◌*◌, ◌/◌, ◌^◌, ◌<◌, ◌≤◌, min, Bool, true, false, cond, ◌&&◌, ◌||◌, List, length, nat_lt, subst, refl, sym, ap, ◌∙◌, inl, inr, arith}
 use Rattle.std.specs.Prelude.{nat_le, ◌==◌}
+use Rattle.std.proofs.Math.Bool.{and-true}
 use Rattle.std.proofs.lemmas.Bool.{cases_order}
 use Rattle.std.proofs.lemmas.Bool.Decides.{nat_tests}
 use native.Mathlib.Nat.{mod-add-mod, mul_comm}
@@ -28,10 +29,6 @@ column_test u col x0 x1 w left right u_in = grind (arith, nat_tests)
 row_test : (v row y0 end h : ℕ) → y0 ≡ row * 16 → end ≡ min (y0 + 16) h → y0 ≤ v → v < end → (v / 16 == row) ≡ true
 row_test v row y0 end h top bottom low high = grind (arith, nat_tests)
 
-and_true : (b : Bool) → (b && true) ≡ b
-and_true true = refl
-and_true false = refl
-
 own_row : (b : Bool) → (b || (b && false)) ≡ (b && true)
 own_row true = refl
 own_row false = refl
@@ -41,7 +38,7 @@ row_of_tile : (p : Picture) (col row x0 x1 y0 end y u : ℕ) → IsTile p col ro
 unfolding in_tile in_span
 row_of_tile p col row x0 x1 y0 end y u tile u_in low high =
     let own : (y == y) ≡ true = grind (arith, nat_tests) in
-    let turned : (x b : Bool) → x ≡ b → (x && true) ≡ (true && b) = λ x b e. rw e (and_true b) in
+    let turned : (x b : Bool) → x ≡ b → (x && true) ≡ (true && b) = λ x b e. rw e (and-true b) in
     rw (row_test y row y0 end p.height tile.top tile.bottom low high, own) (turned _ _ (column_test u col x0 x1 p.width tile.left tile.right u_in))
 
 off_span : (y x0 x1 u v : ℕ) → v ≢ y → in_span y x0 x1 u v ≡ false

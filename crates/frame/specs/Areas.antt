@@ -5,7 +5,8 @@ use Rattle.frame.specs.Pictures.{Picture}
 
 -- how many points of the picture a test names
 unfoldable pub points_in : Picture → (ℕ → ℕ → Bool) → ℕ
-points_in p here = count_by (λ i. here (i % p.width) (i / p.width)) (range_with_len 0 (p.height * p.width))
+points_in p here =
+    count_by (λ i. here (i % p.width) (i / p.width)) (range_with_len 0 (p.height * p.width))
 
 -- the one point at x and y
 unfoldable pub is_at : ℕ → ℕ → ℕ → ℕ → Bool

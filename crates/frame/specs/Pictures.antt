@@ -37,12 +37,18 @@ rows_of p = map (row_at p) (range_with_len 0 p.height)
 
 -- the picture that gives each point the colour of a function of its place
 abbrev pub picture_of : ℕ → ℕ → (ℕ → ℕ → ℕ) → Picture
-picture_of width height colour = record { width = width; height = height; points = map (λ i. colour (i % width) (i / width)) (range_with_len 0 (height * width)) }
+picture_of width height colour =
+    record {
+      width = width;
+      height = height;
+      points = map (λ i. colour (i % width) (i / width)) (range_with_len 0 (height * width));
+    }
 
--- the colours of a picture's points, row by row, with other ones at the points that a test names. They are apart from the
--- picture, so that its sides compute where this isn't opened
+-- the colours of a picture's points, row by row, with other ones at the points that a test names.
+-- They are apart from the picture, so that its sides compute where this isn't opened
 unfoldable pub changed_points : Picture → (ℕ → ℕ → Bool) → (ℕ → ℕ → ℕ) → List ℕ
-changed_points p here colour = (picture_of p.width p.height (λ x y. if here x y then colour x y else colour_at p x y)).points
+changed_points p here colour =
+    (picture_of p.width p.height (λ x y. if here x y then colour x y else colour_at p x y)).points
 
 -- the picture with other colours at the points that a test names
 abbrev pub changed : Picture → (ℕ → ℕ → Bool) → (ℕ → ℕ → ℕ) → Picture

@@ -1,1 +1,3 @@
-pub mod RectLemmas
+pub mod CallerLemmas
+mod RectLemmas
+mod TileLemmas

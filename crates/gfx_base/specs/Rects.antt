@@ -27,11 +27,23 @@ canonical r = if is_empty r then no_points else r
 
 -- the rectangle of the points that both have
 unfoldable pub meet : Rect → Rect → Rect
-meet a b = canonical (record { x0 = int_max a.x0 b.x0; y0 = int_max a.y0 b.y0; x1 = int_min a.x1 b.x1; y1 = int_min a.y1 b.y1 })
+meet a b =
+    canonical (record {
+      x0 = int_max a.x0 b.x0;
+      y0 = int_max a.y0 b.y0;
+      x1 = int_min a.x1 b.x1;
+      y1 = int_min a.y1 b.y1;
+    })
 
 -- the rectangle from the least to the greatest numbers of both
 abbrev pub hull : Rect → Rect → Rect
-hull a b = record { x0 = int_min a.x0 b.x0; y0 = int_min a.y0 b.y0; x1 = int_max a.x1 b.x1; y1 = int_max a.y1 b.y1 }
+hull a b =
+    record {
+      x0 = int_min a.x0 b.x0;
+      y0 = int_min a.y0 b.y0;
+      x1 = int_max a.x1 b.x1;
+      y1 = int_max a.y1 b.y1;
+    }
 
 -- the smallest rectangle that has all points of both; where one is empty, the other
 unfoldable pub cover : Rect → Rect → Rect
@@ -39,7 +51,8 @@ cover a b = if is_empty a then canonical b else (if is_empty b then a else hull 
 
 -- the rectangle moved to the right and downwards
 unfoldable pub shift : Rect → ℤ → ℤ → Rect
-shift r dx dy = canonical (record { x0 = r.x0 +ℤ dx; y0 = r.y0 +ℤ dy; x1 = r.x1 +ℤ dx; y1 = r.y1 +ℤ dy })
+shift r dx dy =
+    canonical (record { x0 = r.x0 +ℤ dx; y0 = r.y0 +ℤ dy; x1 = r.x1 +ℤ dx; y1 = r.y1 +ℤ dy })
 
 -- all points of the first rectangle lie in the second
 abbrev pub LiesIn : Rect → Rect → Type 0

@@ -3,8 +3,9 @@ ghost use Rattle.gfx_base.specs.Range.{is_within, IsNear};
 
 use crate::point::Point;
 
-/// A rectangle of points, from its upper left corner (x0, y0) to its lower right corner (x1, y1). Both corners belong to it,
-/// so it is empty where x1 < x0 or y1 < y0. Every empty rectangle that a call gives is (0, 0, −1, −1).
+/// A rectangle of points, from its upper left corner (x0, y0) to its lower right corner (x1, y1).
+/// Both corners belong to it, so it is empty where x1 < x0 or y1 < y0. Every empty rectangle that a
+/// call gives is [`NO_POINTS`].
 #[derive(Clone, Copy, Debug, PartialEq, Eq)]
 pub struct Rect {
     pub x0: i32,
@@ -13,8 +14,8 @@ pub struct Rect {
     pub y1: i32,
 }
 
-/// The empty rectangle that calls give.
-const NO_POINTS: Rect = Rect {
+/// The empty rectangle that calls give: (0, 0, −1, −1).
+pub const NO_POINTS: Rect = Rect {
     x0: 0,
     y0: 0,
     x1: -1,
@@ -98,13 +99,15 @@ impl Rect {
         self.hull(other)
     }
 
-    /// The rectangle moved by dx points to the right and by dy points downwards. Its four numbers, dx and dy each lie from
-    /// −1,048,576 to 1,048,576.
+    /// The rectangle moved by dx points to the right and by dy points downwards. Its four numbers,
+    /// dx and dy each lie from −1,048,576 to 1,048,576.
     pub fn shift(&self, dx: i32, dy: i32) -> Rect
-        requires corners { IsNear self.now.x0 × IsNear self.now.y0 × IsNear self.now.x1 × IsNear self.now.y1 }
+        requires corners { IsNear self.now.x0 × IsNear self.now.y0 × IsNear self.now.x1
+            × IsNear self.now.y1 }
         requires by { IsNear dx × IsNear dy }
         ensures value { result ≡ shift self.now dx dy }
-        ensures points { (p : Point) → has result p ≡ has self.now (point_at (p.x -ℤ dx) (p.y -ℤ dy)) }
+        ensures points { (p : Point) → has result p
+            ≡ has self.now (point_at (p.x -ℤ dx) (p.y -ℤ dy)) }
         ensures empty { is_empty result ≡ true → result ≡ no_points }
     {
         let moved = Rect {

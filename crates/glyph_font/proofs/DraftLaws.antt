@@ -7,7 +7,8 @@ use Rattle.std.proofs.lemmas.Bool.Decides.{nat_tests}
 use Rattle.std.proofs.lemmas.List.{append-nil, length-append, length-map, map-append}
 use Rattle.std.proofs.lemmas.List.Concat.{flat_map-append}
 use Rattle.spelling.specs.Words.{words_of}
-use Rattle.spelling.proofs.Spellings.{chosen, some_is, named}
+use Rattle.spelling.proofs.CallerLemmas.{chosen, named}
+use Rattle.std.proofs.lemmas.Option.{same_Some}
 use Rattle.glyph_font.specs.declared.place.Place.{Place}
 use Rattle.glyph_font.specs.declared.place.Place.TheVariants.{Between, Within, After}
 use Rattle.glyph_font.specs.Fonts.{Glyph, IsGlyph, IsRising}
@@ -89,11 +90,11 @@ spelled_row gs g row =
 
 after_head_some : (d e : Draft) (o : Option (ℕ × ℕ)) → after_head d o ≡ Some e → (head : ℕ × ℕ) × (o ≡ Some head) × (begun d head ≡ e)
 after_head_some d e None is = absurd cc
-after_head_some d e (Some head) is = (head, refl, some_is (begun d head) e is)
+after_head_some d e (Some head) is = (head, refl, same_Some (begun d head) e is)
 
 after_row_some : (d e : Draft) (o : Option (List Bool)) → after_row d o ≡ Some e → (row : List Bool) × (o ≡ Some row) × (with_row d row ≡ e)
 after_row_some d e None is = absurd cc
-after_row_some d e (Some row) is = (row, refl, some_is (with_row d row) e is)
+after_row_some d e (Some row) is = (row, refl, same_Some (with_row d row) e is)
 
 pub settled_whole : (d : Draft) → length d.last.rows ≡ d.font.height → settled d ≡ record d { place = Between; font = with_glyph d.font d.last }
 unfolding settled
@@ -170,7 +171,7 @@ has_grown d front line row within was is wide =
 step_at : (at : Place) (d e : Draft) (front : List (List ℕ)) (line : List ℕ) → d.place ≡ at → StandsAt at d front → after_at at d line ≡ Some e → Stands e (front ++ line ∷ [])
 step_at Between d e front line place was is =
     elim (chosen (bytes_eq line (codes "end")) (Some (record d { place = After })) (after_head d (head_of d.least (words_of line))) (Some e) is) [
-      | inl end ↦ subst (λ (x : Draft). Stands x (front ++ line ∷ [])) (some_is (record d { place = After }) e end.1) (ended d front line was (named line (codes "end") end.0))
+      | inl end ↦ subst (λ (x : Draft). Stands x (front ++ line ∷ [])) (same_Some (record d { place = After }) e end.1) (ended d front line was (named line (codes "end") end.0))
       | inr other ↦
           let h = after_head_some d e (head_of d.least (words_of line)) other.1 in
           let t = head_takes d.least line h.0 h.1 in
@@ -198,7 +199,7 @@ settled_height d = either_height (eqb (length d.last.rows) d.font.height) (recor
 height_at : (at : Place) (d e : Draft) (line : List ℕ) → after_at at d line ≡ Some e → e.font.height ≡ d.font.height
 height_at Between d e line is =
     elim (chosen (bytes_eq line (codes "end")) (Some (record d { place = After })) (after_head d (head_of d.least (words_of line))) (Some e) is) [
-      | inl end ↦ ap (λ (x : Draft). x.font.height) (sym (some_is (record d { place = After }) e end.1))
+      | inl end ↦ ap (λ (x : Draft). x.font.height) (sym (same_Some (record d { place = After }) e end.1))
       | inr other ↦ let h = after_head_some d e (head_of d.least (words_of line)) other.1 in ap (λ (x : Draft). x.font.height) (sym h.2)
     ]
 height_at Within d e line is =

@@ -18,7 +18,7 @@ use Rattle.glyph_font.specs.Texts.{IsBody}
 use Rattle.glyph_font.specs.Faults.{IsFront, IsFault, IsRefused, IsCut, IsWrong, why_at}
 use Rattle.glyph_font.specs.Reading.{Draft, start, after_line, at_end, on_line, read_from, read_of, Says}
 use Rattle.glyph_font.proofs.DraftLaws.{StandsAt}
-use Rattle.glyph_font.proofs.Fronts.{run, run_on, height_after, read_stands, front_read_of, ReadsAll, all_read, front_reads, first_read}
+use Rattle.glyph_font.proofs.LinesReadLemmas.{run, run_on, height_after, read_stands, front_read_of, ReadsAll, all_read, front_reads, first_read}
 
 -- ---- what reading says
 

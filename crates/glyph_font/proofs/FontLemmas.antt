@@ -9,7 +9,8 @@ use Rattle.std.proofs.lemmas.Bool.Decides.{nat_tests}
 use Rattle.std.proofs.lemmas.Option.{slice_get-get_or}
 use Rattle.std.proofs.lemmas.List.{get_or-map, length-map, length-append, map-append, get_or_past, get_or-take, get_or_append_left, get_or_push, get_or-set_same, get_or-set_other}
 use Rattle.std.proofs.lemmas.List.Folds.{find-append}
-use Rattle.spelling.proofs.Spellings.{chosen, some_is}
+use Rattle.spelling.proofs.CallerLemmas.{chosen}
+use Rattle.std.proofs.lemmas.Option.{same_Some}
 use Rattle.glyph_font.specs.declared.glyph.Glyph.{Glyph as Kept}
 use Rattle.glyph_font.specs.Bits.{bits_of}
 use Rattle.glyph_font.specs.Fonts.{Glyph, Font, IsGlyph, IsRising, IsFont, glyph_in, glyph_of, has_point, is_set}
@@ -79,7 +80,7 @@ pub found_is : (P : Glyph → Type 0) (glyphs : List Glyph) (code : ℕ) (g : Gl
 found_is P [] code g all e = absurd cc
 found_is P (first ∷ glyphs) code g all e =
     elim (chosen (eqb first.code code) (Some first) (glyph_in glyphs code) (Some g) e) [
-      | inl is ↦ subst P (some_is first g is.1) all.0
+      | inl is ↦ subst P (same_Some first g is.1) all.0
       | inr other ↦ found_is P glyphs code g all.1 other.1
     ]
 

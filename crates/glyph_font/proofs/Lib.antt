@@ -1,7 +1,7 @@
-pub mod BitLemmas
-pub mod FontLemmas
-pub mod LineLaws
-pub mod DraftLaws
-pub mod TakeLemmas
-pub mod Fronts
-pub mod FaultLaws
+mod BitLemmas
+mod DraftLaws
+mod FaultLaws
+mod FontLemmas
+mod LineLaws
+mod LinesReadLemmas
+mod TakeLemmas

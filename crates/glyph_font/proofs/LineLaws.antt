@@ -8,8 +8,8 @@ use Rattle.std.proofs.lemmas.Bool.Decides.{nat_tests}
 use Rattle.std.proofs.lemmas.Option.{cond_some}
 use Rattle.std.proofs.lemmas.List.{length-map}
 use Rattle.spelling.specs.Words.{text_of_words, words_of, after_word, natural_at}
-use Rattle.spelling.proofs.Parts.{parts-join}
-use Rattle.spelling.proofs.Spellings.{bind_some, onto, after_word_takes, nothing_left, natural_at_takes, natural_at_again, line_from_words, whole_by_test, natural_whole}
+use Rattle.spelling.proofs.CallerLemmas.{parts-join}
+use Rattle.spelling.proofs.CallerLemmas.{bind_some, onto, after_word_takes, nothing_left, natural_at_takes, natural_at_again, line_from_words, whole_by_test, natural_whole}
 use Rattle.glyph_font.specs.Texts.{row_text, head_text}
 use Rattle.glyph_font.specs.Reading.{head_of, row_of, is_point}
 

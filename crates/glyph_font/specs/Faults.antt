@@ -38,7 +38,8 @@ pub record AreAll (height : ℕ) (lines : List (List ℕ)) : Type 0 where
   pub rising : IsRising 32 glyphs
   pub spelled : lines ≡ lines_of_glyphs glyphs ++ codes "end" ∷ []
 
--- the lines are the first ones of a font, and after them stands this place: between glyphs, within one, or after `end`
+-- the lines are the first ones of a font, and after them stands this place: between glyphs, within
+-- one, or after `end`
 abbrev pub IsFront : ℕ → Place → List (List ℕ) → Type 0
 IsFront height Between lines = AreGlyphs height lines
 IsFront height Within lines = AreRows height lines
@@ -58,7 +59,9 @@ IsCut lines n place reason = (n ≡ length lines) × (place ≢ After) × (reaso
 
 -- with one line more they are no first lines of a font
 abbrev pub IsWrong : ℕ → List (List ℕ) → ℕ → Place → FontWhy → Type 0
-IsWrong height lines n place reason = (n < length lines) × ((other : Place) → IsFront height other (take (n + 1) lines) → ⊥) × (reason ≡ why_at place)
+IsWrong height lines n place reason =
+    (n < length lines) × ((other : Place) → IsFront height other (take (n + 1) lines) → ⊥)
+    × (reason ≡ why_at place)
 
 -- so many lines are right, and the next one is wrong, or missing
 pub record IsFault (height : ℕ) (body : List ℕ) (fault : FontFault) : Type 0 where
@@ -66,7 +69,8 @@ pub record IsFault (height : ℕ) (body : List ℕ) (fault : FontFault) : Type 0
   pub place : Place
   pub counted : fault.line ≡ right + 1
   pub front : IsFront height place (take right (lines_of body))
-  pub wrong : IsCut (lines_of body) right place fault.why ⊎ IsWrong height (lines_of body) right place fault.why
+  pub wrong : IsCut (lines_of body) right place fault.why
+      ⊎ IsWrong height (lines_of body) right place fault.why
 
 -- a refusal tells the fault; of one for want of memory nothing is said
 abbrev pub IsRefused : ℕ → List ℕ → FontRefused → Type 0

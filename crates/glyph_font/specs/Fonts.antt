@@ -2,7 +2,8 @@
 use Rattle.std.specs.Prelude.{◌≡◌, ℕ, ◌+◌, ◌≤◌, Bool, false, List, [], ◌∷◌, length, map, sum, find, Option, Some, None, ◌==◌, slice_index_or}
 use Rattle.std.specs.List.{AllByRecursion}
 
--- The glyph of a byte: its width in points, and its rows from the top. A row has its points from the left, and a point is true where it is set.
+-- The glyph of a byte: its width in points, and its rows from the top. A row has its points from
+-- the left, and a point is true where it is set.
 pub record Glyph : Type 0 where
   pub code : ℕ
   pub width : ℕ

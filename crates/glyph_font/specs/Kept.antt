@@ -6,7 +6,12 @@ use Rattle.glyph_font.specs.Fonts.{Glyph, glyph_in}
 
 -- a kept glyph, of which so many rows count
 abbrev pub glyph_from : ℕ → Kept → Glyph
-glyph_from rows kept = record { code = kept.code; width = kept.width; rows = map (bits_of kept.width) (take rows kept.rows) }
+glyph_from rows kept =
+    record {
+      code = kept.code;
+      width = kept.width;
+      rows = map (bits_of kept.width) (take rows kept.rows);
+    }
 
 abbrev pub glyphs_from : ℕ → List Kept → List Glyph
 glyphs_from height kept = map (glyph_from height) kept
@@ -19,4 +24,5 @@ at_slot glyphs (suc n) = slice_get glyphs n
 -- the slot of each code from 32 on holds its glyph
 pub record IsTable (slots : List ℕ) (glyphs : List Glyph) : Type 0 where
   pub within : (i : ℕ) → slice_index slots i ≤ length glyphs
-  pub holds : (code : ℕ) → 32 ≤ code → code ≤ 126 → at_slot glyphs (slice_index slots (code - 32)) ≡ glyph_in glyphs code
+  pub holds : (code : ℕ) → 32 ≤ code → code ≤ 126
+      → at_slot glyphs (slice_index slots (code - 32)) ≡ glyph_in glyphs code

@@ -31,11 +31,13 @@ is_point b = b == 35 || b == 46
 
 -- the points of a row of this width
 unfoldable pub row_of : ℕ → List ℕ → Option (List Bool)
-row_of width line = if length line == width && list_all is_point line then Some (map (λ b. b == 35) line) else None
+row_of width line =
+    if length line == width && list_all is_point line then Some (map (λ b. b == 35) line) else None
 
 -- ---- what the lines so far say
 
--- The place of the next line, the least code that the next glyph can have, the whole glyphs, and the glyph that was begun last.
+-- The place of the next line, the least code that the next glyph can have, the whole glyphs, and
+-- the glyph that was begun last.
 pub record Draft : Type 0 where
   pub place : Place
   pub least : ℕ
@@ -44,18 +46,31 @@ pub record Draft : Type 0 where
 
 -- before the first line
 abbrev pub start : ℕ → Draft
-start height = record { place = Between; least = 32; font = record { height = height; glyphs = [] }; last = record { code = 0; width = 0; rows = [] } }
+start height =
+    record {
+      place = Between;
+      least = 32;
+      font = record { height = height; glyphs = [] };
+      last = record { code = 0; width = 0; rows = [] };
+    }
 
 -- with a glyph of which no row was read
 abbrev pub begun : Draft → ℕ × ℕ → Draft
-begun d head = record d { place = Within; least = head.0 + 1; last = record { code = head.0; width = head.1; rows = [] } }
+begun d head =
+    record d {
+      place = Within;
+      least = head.0 + 1;
+      last = record { code = head.0; width = head.1; rows = [] };
+    }
 
 abbrev pub after_head : Draft → Option (ℕ × ℕ) → Option Draft
 after_head d None = None
 after_head d (Some head) = Some (begun d head)
 
 abbrev pub after_between : Draft → List ℕ → Option Draft
-after_between d line = if bytes_eq line (codes "end") then Some (record d { place = After }) else after_head d (head_of d.least (words_of line))
+after_between d line =
+    if bytes_eq line (codes "end") then Some (record d { place = After })
+    else after_head d (head_of d.least (words_of line))
 
 -- a glyph with a row more
 abbrev pub grown : Glyph → List Bool → Glyph
@@ -67,7 +82,10 @@ with_glyph font g = record font { glyphs = font.glyphs ++ g ∷ [] }
 
 -- the last glyph is whole where it has all rows
 unfoldable pub settled : Draft → Draft
-settled d = if length d.last.rows == d.font.height then record d { place = Between; font = with_glyph d.font d.last } else d
+settled d =
+    if length d.last.rows == d.font.height
+    then record d { place = Between; font = with_glyph d.font d.last }
+    else d
 
 abbrev pub with_row : Draft → List Bool → Draft
 with_row d row = settled (record d { last = grown d.last row })
@@ -93,14 +111,16 @@ at_end n After d = Ok d.font
 at_end n _ d = Err (record { line = n; why = why.End })
 
 -- goes on after line n, or stops there
-abbrev pub on_line : ℕ → Place → Option Draft → (Draft → Result Font FontFault) → Result Font FontFault
+abbrev pub on_line : ℕ → Place → Option Draft → (Draft → Result Font FontFault)
+    → Result Font FontFault
 on_line n place None next = Err (record { line = n; why = why_at place })
 on_line n place (Some d) next = next d
 
 -- the lines from line n on
 abbrev pub read_from : ℕ → Draft → List (List ℕ) → Result Font FontFault
 read_from n d [] = at_end n d.place d
-read_from n d (line ∷ lines) = on_line n d.place (after_line d line) (λ next. read_from (n + 1) next lines)
+read_from n d (line ∷ lines) =
+    on_line n d.place (after_line d line) (λ next. read_from (n + 1) next lines)
 
 -- all lines in order
 unfoldable pub read_of : ℕ → List ℕ → Result Font FontFault
@@ -115,7 +135,9 @@ least_after least (g ∷ gs) = least_after (g.code + 1) gs
 
 -- The whole glyphs are ones of the font's height, and the codes rise, that of a begun glyph too.
 abbrev pub Keeps : Place → Draft → Type 0
-Keeps Within d = IsGlyph (length d.last.rows) d.last × (length d.last.rows < d.font.height) × IsRising 32 (d.font.glyphs ++ d.last ∷ []) × (d.least ≡ d.last.code + 1)
+Keeps Within d =
+    IsGlyph (length d.last.rows) d.last × (length d.last.rows < d.font.height)
+    × IsRising 32 (d.font.glyphs ++ d.last ∷ []) × (d.least ≡ d.last.code + 1)
 Keeps _ d = IsRising 32 d.font.glyphs × (d.least ≡ least_after 32 d.font.glyphs)
 
 pub record IsDraft (d : Draft) : Type 0 where
@@ -128,7 +150,8 @@ pub record IsDraft (d : Draft) : Type 0 where
 
 -- what the program's draft says
 abbrev pub draft_of : DraftOfProgram → Draft
-draft_of d = record { place = d.place; least = d.least; font = d.font; last = glyph_from d.rows d.last }
+draft_of d =
+    record { place = d.place; least = d.least; font = d.font; last = glyph_from d.rows d.last }
 
 -- what taking a line returned, and left
 abbrev pub Takes : Result (Unit {0}) LineError → DraftOfProgram → Option Draft → Type 0

@@ -123,7 +123,8 @@ impl Draft {
     #[tactic(auto, unfolding(crate::specs::Reading::settled))]
     fn settle(&mut self) -> Result<(), Memory>
         requires glyph { IsGlyph self.old.rows (glyph_from self.old.rows self.old.last) }
-        requires rising { IsRising 32 (self.old.font.glyphs ++ glyph_from self.old.rows self.old.last ∷ []) }
+        requires rising { IsRising 32 (self.old.font.glyphs
+            ++ glyph_from self.old.rows self.old.last ∷ []) }
         ensures { IfOk result (λ _. draft_of self.new ≡ settled (draft_of self.old)) }
     {
         if self.rows == self.font.height() {
@@ -137,7 +138,8 @@ impl Draft {
     fn take_row(&mut self, line: &[u8]) -> Result<(), LineError>
         requires draft { IsDraft (draft_of self.old) }
         requires place { self.old.place ≡ place.Within }
-        ensures { Takes result self.new (after_row (draft_of self.old) (row_of self.old.last.width line.now)) }
+        ensures { Takes result self.new
+            (after_row (draft_of self.old) (row_of self.old.last.width line.now)) }
     {
         let Some(row) = row(self.last.width, line) else {
             return Err(LineError::Wrong);

@@ -15,7 +15,8 @@ pub const LAST_CODE: u8 = 126;
 /// How many glyphs a font may have.
 const MOST_GLYPHS: usize = 95;
 
-/// A font: glyphs of one height, from 1 to 32 points, for some of the codes from 32 to 126. Each is from 1 to 32 points wide.
+/// A font: glyphs of one height, from 1 to 32 points, for some of the codes from 32 to 126. Each is
+/// from 1 to 32 points wide.
 #[derive(Drop)]
 pub struct Font {
     height: u8,
@@ -30,9 +31,14 @@ impl Model for Font {
 
     ghost Value = { Content };
 
-    ghost view = { λ f. record { height = f.height; glyphs = glyphs_from f.height f.glyphs.items } };
+    ghost view = { λ f. record {
+      height = f.height;
+      glyphs = glyphs_from f.height f.glyphs.items;
+    } };
 
-    ghost invariant = { λ f. IsFont (record { height = f.height; glyphs = glyphs_from f.height f.glyphs.items }) × IsTable f.slots (glyphs_from f.height f.glyphs.items) };
+    ghost invariant = { λ f. IsFont
+        (record { height = f.height; glyphs = glyphs_from f.height f.glyphs.items })
+        × IsTable f.slots (glyphs_from f.height f.glyphs.items) };
 }
 
 impl Font {
@@ -79,7 +85,8 @@ impl Font {
 
     /// The glyph of this code.
     fn glyph(&self, code: u8) -> Option<&Glyph>
-        ensures { MatchOption result (glyph_of self.now code ≡ None) (λ g. glyph_of self.now code ≡ Some (glyph_from self.now.height g.now)) }
+        ensures { MatchOption result (glyph_of self.now code ≡ None)
+            (λ g. glyph_of self.now code ≡ Some (glyph_from self.now.height g.now)) }
     {
         let slots = &self.slots;
         if code < FIRST_CODE || code > LAST_CODE {
@@ -103,8 +110,8 @@ impl Font {
         }
     }
 
-    /// Whether the point of the glyph of this code is set, in the column counted from the left and the row counted from the
-    /// top, both from 0. False where there is no glyph, and outside it.
+    /// Whether the point of the glyph of this code is set, in the column counted from the left and
+    /// the row counted from the top, both from 0. False where there is no glyph, and outside it.
     pub fn is_set(&self, code: u8, col: u8, row: u8) -> bool
         ensures { result ≡ is_set self.now code col row }
     {

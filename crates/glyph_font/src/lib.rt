@@ -11,6 +11,3 @@ mod reader;
 
 pub use fault::{FontFault, FontRefused, FontWhy};
 pub use font::Font;
-
-#[cfg(test)]
-mod tests;

@@ -22,7 +22,8 @@ fn fault(line: u32, why: FontWhy) -> FontRefused
 #[tactic(auto, unfolding(crate::specs::Reading::read_of))]
 fn read_lines(alloc: Global, height: u8, body: &[u8]) -> Result<Font, FontRefused>
     requires { (1 ≤ height) × (height ≤ 32) }
-    ensures { MatchResult result (λ font. read_of height body.now ≡ Ok font) (Says (read_of height body.now)) }
+    ensures { MatchResult result (λ font. read_of height body.now ≡ Ok font)
+        (Says (read_of height body.now)) }
 {
     let Ok(mut draft) = Draft::new(alloc, height) else {
         return Err(FontRefused::Memory);
@@ -47,13 +48,16 @@ fn read_lines(alloc: Global, height: u8, body: &[u8]) -> Result<Font, FontRefuse
 }
 
 impl Font {
-    /// The font that a body says: any number of glyphs, and then the line `end`. A glyph is the line `glyph CODE WIDTH` and
-    /// then a line for each row of the font's height, from the top. Codes are from 32 to 126 and rise, widths are from 1 to
-    /// 32, and a row has a `#` for each point that is set and a `.` for each other. The height is from 1 to 32 points.
+    /// The font that a body says: any number of glyphs, and then the line `end`. A glyph is the
+    /// line `glyph CODE WIDTH` and then a line for each row of the font's height, from the top.
+    /// Codes are from 32 to 126 and rise, widths are from 1 to 32, and a row has a `#` for each
+    /// point that is set and a `.` for each other. The height is from 1 to 32 points.
     pub fn read(alloc: Global, height: u8, body: &[u8]) -> Result<Font, FontRefused>
         requires { (1 ≤ height) × (height ≤ 32) }
-        // What is read is the body's font; otherwise its first fault is told, unless memory runs out.
-        ensures { MatchResult result (λ font. IsBody height body.now font) (IsRefused height body.now) }
+        // What is read is the body's font; otherwise its first fault is told, unless memory runs
+        // out.
+        ensures { MatchResult result (λ font. IsBody height body.now font)
+            (IsRefused height body.now) }
     {
         read_lines(alloc, height, body)
     }

@@ -1,4 +1,5 @@
-pub mod LineLemmas
-pub mod CourseLemmas
-pub mod WindowLemmas
-pub mod PointLemmas
+pub mod CallerLemmas
+mod CourseLemmas
+mod LineLemmas
+mod PointLemmas
+mod WindowLemmas

@@ -15,7 +15,7 @@ use Rattle.gfx_base.specs.declared.point.Point.{Point}
 use Rattle.gfx_base.specs.declared.rect.Rect.{Rect}
 use Rattle.gfx_base.specs.Range.{is_within}
 use Rattle.gfx_base.specs.Rects.{has}
-use Rattle.gfx_base.proofs.RectLemmas.{same_point}
+use Rattle.gfx_base.proofs.CallerLemmas.{same_point}
 use Rattle.line_ink.specs.Lines.{flipped, is_same, is_wide, left_of, right_of, y_at, is_on_wide, is_on_line, wide_point, wide_points, points_of_line, clipped}
 use Rattle.line_ink.proofs.LineLemmas.{is_same-both, is_same-from, wide-apart, left-right}
 use Rattle.line_ink.proofs.CourseLemmas.{within_parts, is_same-flipped}

@@ -17,12 +17,20 @@ pub record IsCourse (c : Course) : Type 0 where
 
 -- the course from the left end to the right one
 abbrev pub course_from : Bool → Point → Point → Course
-course_from is_steep l r = record { is_steep = is_steep; first = l; steps = unsigned_abs (r.x -ℤ l.x); rise = unsigned_abs (r.y -ℤ l.y); descends = int_lt r.y l.y }
+course_from is_steep l r =
+    record {
+      is_steep = is_steep;
+      first = l;
+      steps = unsigned_abs (r.x -ℤ l.x);
+      rise = unsigned_abs (r.y -ℤ l.y);
+      descends = int_lt r.y l.y;
+    }
 
 abbrev pub course_between : Bool → Point → Point → Course
 course_between is_steep a b = course_from is_steep (left_of a b) (right_of a b)
 
--- what makes a quotient that is rounded down the nearest one, and of two that are as near the one that gives the greater coordinate
+-- what makes a quotient that is rounded down the nearest one, and of two that are as near the one
+-- that gives the greater coordinate
 abbrev pub half : Course → ℕ
 half c = if c.descends then c.steps - 1 else c.steps
 
@@ -49,7 +57,8 @@ turned is_steep p = if is_steep then flipped p else p
 
 -- the rectangle with coordinates along the axis and across it
 abbrev pub turned_rect : Bool → Rect → Rect
-turned_rect is_steep r = if is_steep then record { x0 = r.y0; y0 = r.x0; x1 = r.y1; y1 = r.x1 } else r
+turned_rect is_steep r =
+    if is_steep then record { x0 = r.y0; y0 = r.x0; x1 = r.y1; y1 = r.x1 } else r
 
 abbrev pub place_at : Course → ℕ → ℕ → Point
 place_at c i k = turned c.is_steep (point_at (c.first.x +ℤ pos i) (across c k))

@@ -11,8 +11,9 @@ ghost use Rattle.line_ink.specs.Courses.{IsCourse, course_from, course_between, 
 use crate::plot::Plot;
 use gfx_base::{Point, Rect};
 
-/// A line of at least two points. Its axis is the horizontal one, and the vertical one where it is higher than wide: then its
-/// points have x and y exchanged here. Steps are counted along the axis from the left end, or the upper one.
+/// A line of at least two points. Its axis is the horizontal one, and the vertical one where it is
+/// higher than wide: then its points have x and y exchanged here. Steps are counted along the axis
+/// from the left end, or the upper one.
 #[derive(Clone, Copy)]
 pub struct Course {
     /// Whether x and y are exchanged.
@@ -74,7 +75,8 @@ impl Course {
     pub fn window(&self, clip: &Rect) -> (u32, u32)
         requires { IsCourse self.now }
         ensures most { result.1 ≤ self.now.steps + 1 }
-        ensures steps { (i : ℕ) → i ≤ self.now.steps → IsTrue (has clip.now (place self.now i)) ↔ ((result.0 ≤ i) × (i < result.1)) }
+        ensures steps { (i : ℕ) → i ≤ self.now.steps → IsTrue (has clip.now (place self.now i))
+            ↔ ((result.0 ≤ i) × (i < result.1)) }
     {
         let clip = self.turned(clip);
         let (near, far) = self.offsets(clip.y0, clip.y1);
@@ -105,8 +107,10 @@ impl Course {
     pub fn put_steps<P: Plot>(&self, from: u32, to: u32, out: &mut P)
         requires course { IsCourse self.now }
         requires most { to ≤ self.now.steps + 1 }
-        requires may_put { (i : ℕ) → from ≤ i → i < to → P.may_put (P.stands_for out.old) (place self.now i) }
-        ensures { P.stands_for out.new ≡ fold P.after (P.stands_for out.old) (map (place self.now) (range_with_len from (to - from))) }
+        requires may_put { (i : ℕ) → from ≤ i → i < to
+            → P.may_put (P.stands_for out.old) (place self.now i) }
+        ensures { P.stands_for out.new ≡ fold P.after (P.stands_for out.old)
+            (map (place self.now) (range_with_len from (to - from))) }
     {
         if to <= from {
             return;
@@ -126,7 +130,8 @@ impl Course {
         requires course { IsCourse self.now }
         requires coordinate { (neg_ℤ (pos (2 ^ 32)) ≤ℤ x) × (x ≤ℤ pos (2 ^ 32)) }
         ensures most { result ≤ self.now.steps + 1 }
-        ensures steps { (i : ℕ) → i ≤ self.now.steps → (i < result) ↔ ((self.now.first.x +ℤ pos i) <ℤ x) }
+        ensures steps { (i : ℕ) → i ≤ self.now.steps → (i < result)
+            ↔ ((self.now.first.x +ℤ pos i) <ℤ x) }
     {
         let most = i64::from(self.steps) + 1;
         (x - i64::from(self.first.x)).clamp(0, most) as u32
@@ -136,7 +141,8 @@ impl Course {
     fn offsets(&self, y0: i32, y1: i32) -> (i64, i64)
         requires { IsCourse self.now }
         ensures most { result.1 ≤ℤ pos (2 ^ 32) }
-        ensures offsets { (k : ℕ) → IsTrue (is_within y0 y1 (across self.now k)) ↔ ((result.0 ≤ℤ pos k) × (pos k ≤ℤ result.1)) }
+        ensures offsets { (k : ℕ) → IsTrue (is_within y0 y1 (across self.now k))
+            ↔ ((result.0 ≤ℤ pos k) × (pos k ≤ℤ result.1)) }
     {
         let first = i64::from(self.first.y);
         if self.descends {
@@ -150,7 +156,8 @@ impl Course {
     fn steps_below(&self, k: i64) -> u32
         requires { IsCourse self.now }
         ensures most { result ≤ self.now.steps + 1 }
-        ensures steps { (i : ℕ) → i ≤ self.now.steps → (i < result) ↔ (pos (offset self.now i) <ℤ k) }
+        ensures steps { (i : ℕ) → i ≤ self.now.steps → (i < result)
+            ↔ (pos (offset self.now i) <ℤ k) }
     {
         if k <= 0 {
             return 0;

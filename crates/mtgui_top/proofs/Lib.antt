@@ -1,24 +1,3 @@
-pub mod LineLaws
-pub mod CommentLaws
-pub mod ScriptsTaken
-pub mod ScriptsAgain
-pub mod Scripts
-pub mod LineReasons
-pub mod Fronts
-pub mod FaultLaws
-pub mod AreaLemmas
-pub mod FillLemmas
-pub mod Windows
-pub mod BlockLemmas
-pub mod JobLemmas
-pub mod EngineLemmas
-pub mod CreateLemmas
-pub mod RunLemmas
-pub mod FrameLemmas
-pub mod Writes
-pub mod PlayLemmas
-pub mod PlainLemmas
-pub mod SeenLemmas
-pub mod DamageLaws
-pub mod ScriptTexts
-pub mod Files
+mod PlayLemmas
+mod ScanLemmas
+mod FileLemmas

@@ -1,56 +1,56 @@
--- What is written for a file, and the words that ask for it.
-use Rattle.std.specs.Prelude.{◌≡◌, ℕ, ◌+◌, Bool, true, false, ◌||◌, not, ◌==◌, if◌then◌else◌, List, [], ◌∷◌, ◌++◌, length, map, codes, slice_index, String, string_bytes}
-use Rattle.std.specs.declared.alloc.Global.{Global}
-use Rattle.mtgui_top.specs.declared.line.Line.{Line}
-use Rattle.mtgui_top.specs.declared.reply.Reply.{Reply}
-use Rattle.mtgui_top.specs.declared.reply.Reply.TheVariants.{Done, Handle, Jobs, Refused}
-use Rattle.mtgui_top.specs.declared.fault.Reason.{Reason}
-use Rattle.mtgui_top.specs.declared.fault.Reason.TheVariants as reason
-use Rattle.mtgui_top.specs.declared.fault.Fault.{Fault}
+-- What is written for a script, and for a file that is none.
+use Rattle.std.specs.Prelude.{ℕ, ◌+◌, if◌then◌else◌, List, [], ◌∷◌, ◌++◌, length, map, codes}
+use Rattle.calls.specs.declared.line.Line.{Line}
+use Rattle.calls.specs.Lines.{call_of, entry_of}
+use Rattle.script.specs.declared.fault.Reason.{Reason}
+use Rattle.script.specs.declared.fault.Reason.TheVariants as reason
+use Rattle.script.specs.declared.fault.ScriptFault.{ScriptFault}
+use Rattle.script.specs.Scripts.{Script}
+use Rattle.journal.specs.Texts.{frame_text, reply_text, summary_text, fault_text}
+use Rattle.gui_core.specs.Setups.{Setup, setup_for, painter}
+use Rattle.gui_core.specs.States.{State, opening, step, state_after, is_refused}
 use Rattle.mtgui_top.specs.declared.command.Verb.{Verb}
 use Rattle.mtgui_top.specs.declared.command.Verb.TheVariants.{Play, Paint}
-use Rattle.mtgui_top.specs.Setups.{Setup}
-use Rattle.mtgui_top.specs.Looks.{painter}
-use Rattle.mtgui_top.specs.States.{State, opening, step, state_after}
-use Rattle.mtgui_top.specs.Scripts.{Script}
-use Rattle.mtgui_top.specs.Texts.{frame_text, reply_text, summary_text, fault_text}
 
 -- what the calls of lines are answered, one after the other
 abbrev pub replies : Setup → State → List Line → List ℕ
 replies setup s [] = []
 replies setup s (line ∷ lines) =
-    let now = step setup s line.call in reply_text line.call now.1 now.0.shown ++ replies setup now.0 lines
-
-abbrev pub is_refused : Reply → Bool
-is_refused Done = false
-is_refused (Handle handle) = false
-is_refused (Jobs count) = false
-is_refused (Refused refusal) = true
+    let now = step setup s (entry_of line) in
+    reply_text (call_of line) now.reply now.state.shown ++ replies setup now.state lines
 
 -- how many of the calls are refused
 abbrev pub refused_count : Setup → State → List Line → ℕ
 refused_count setup s [] = 0
 refused_count setup s (line ∷ lines) =
-    let now = step setup s line.call in (if is_refused now.1 then 1 else 0) + refused_count setup now.0 lines
+    let now = step setup s (entry_of line) in
+    (if is_refused now.reply then 1 else 0) + refused_count setup now.state lines
+
+-- the state after the calls of lines
+abbrev pub after_lines : Setup → State → List Line → State
+after_lines setup s lines = state_after setup s (map entry_of lines)
 
 -- the last line: no picture is ever switched with one buffer
 unfoldable pub summary_of : Setup → State → List Line → List ℕ
-summary_of setup s lines = summary_text (length lines) (refused_count setup s lines) 0 (length (state_after setup s lines).windows)
+summary_of setup s lines =
+    summary_text (length lines) (refused_count setup s lines) 0
+    (length (after_lines setup s lines).windows)
 
-abbrev pub setup_for : Script → Setup
-setup_for script = record { width = script.width; height = script.height; classes = script.classes }
+-- what the core is opened with for a script
+abbrev pub setup_of : Script → Setup
+setup_of script = setup_for script.assets script.config
 
--- the play text of a script
+-- the play text of a script: the answers to its calls, and the summary
 abbrev pub play_text : Script → List ℕ
 play_text script =
-    let setup = setup_for script in
+    let setup = setup_of script in
     replies setup (opening setup) script.lines ++ summary_of setup (opening setup) script.lines
 
 -- the paint text of a script: the painter's picture of the windows after its calls
 abbrev pub paint_text : Script → List ℕ
 paint_text script =
-    let setup = setup_for script in
-    frame_text (painter setup (state_after setup (opening setup) script.lines).windows)
+    let setup = setup_of script in
+    frame_text (painter setup (after_lines setup (opening setup) script.lines).windows)
 
 -- what is written for a script
 abbrev pub text_for : Verb → Script → List ℕ
@@ -70,21 +70,5 @@ reason_text reason.Many = codes "many"
 reason_text reason.End = codes "end"
 
 -- the line for a file that is no script
-abbrev pub fault_line : Fault → List ℕ
-fault_line fault = fault_text fault.line (reason_text fault.reason)
-
--- ---- words
-
--- A name doesn't begin with `-`, where it isn't that byte alone.
-abbrev pub is_file_name : List ℕ → Bool
-is_file_name name = length name == 1 || not (slice_index name 0 == 45)
-
--- the word that asks for it
-abbrev pub verb_word : Verb → List ℕ
-verb_word Play = codes "play"
-verb_word Paint = codes "paint"
-
--- the words are that word and a file's name
-pub record IsCommand (verb : Verb) (words : List (String Global)) (name : List ℕ) : Type 0 where
-  pub spelled : map (λ word. string_bytes word) words ≡ verb_word verb ∷ name ∷ []
-  pub is_name : is_file_name name ≡ true
+abbrev pub fault_line : ScriptFault → List ℕ
+fault_line fault = fault_text fault.line (reason_text fault.why)

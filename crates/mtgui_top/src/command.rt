@@ -2,7 +2,7 @@
 
 ghost use Rattle.std.specs.Prelude.{◌≡◌, List, ℕ, MatchOption};
 ghost use Rattle.mtgui_top.specs.declared.command.Verb.{Verb};
-ghost use Rattle.mtgui_top.specs.Playing.{verb_word, is_file_name, IsCommand};
+ghost use Rattle.mtgui_top.specs.Words.{verb_word, is_file_name, IsCommand};
 
 /// What is asked for of a file.
 #[derive(Clone, Copy)]
@@ -14,7 +14,8 @@ pub enum Verb {
 }
 
 fn verb_of(word: &str) -> Option<Verb>
-    ensures { MatchOption result ((verb : Verb) → word.now ≡ verb_word verb → ⊥) (λ verb. word.now ≡ verb_word verb) }
+    ensures { MatchOption result ((verb : Verb) → word.now ≡ verb_word verb → ⊥)
+        (λ verb. word.now ≡ verb_word verb) }
 {
     match word {
         "play" => Some(Verb::Play),
@@ -32,7 +33,8 @@ fn is_file_name(name: &str) -> bool
 
 /// What the words ask for, and the file that they name.
 pub fn command(words: &[String]) -> Option<(Verb, &str)>
-    ensures { MatchOption result ((verb : Verb) (name : List ℕ) → IsCommand verb words.now name → ⊥) (λ c. IsCommand c.0 words.now c.1.now) }
+    ensures { MatchOption result ((verb : Verb) (name : List ℕ) → IsCommand verb words.now name → ⊥)
+        (λ c. IsCommand c.0 words.now c.1.now) }
 {
     let [word, name] = words else {
         return None;

@@ -1,65 +1,78 @@
-//! `play FILE` and `paint FILE`: a file is read, and what its script's calls are answered is written, or the painter's picture
-//! of the windows that they leave.
+//! `play FILE` and `paint FILE`: a file is read, and what its script's calls are answered is
+//! written, or the painter's picture of the windows that they leave.
 
-ghost use Rattle.std.specs.Prelude.{◌≡◌, ◌↔◌, ◌⊎◌, ◌<◌, ◌≤◌, ◌++◌, if◌then◌else◌, List, [], ℕ, Ok, Err, length, codes};
-ghost use Rattle.outside.specs.Faults.{Wrote, Refused, Whole};
+ghost use Rattle.std.specs.Prelude.{◌≡◌, ◌↔◌, ◌⊎◌, ◌+◌, ◌<◌, ◌≤◌, ◌++◌, List, [], ℕ, Ok, Err, length, map, true};
+ghost use Rattle.std.specs.List.{AllByRecursion};
+ghost use Rattle.outside.specs.Logs.{Wrote, FailedAt, Whole};
 ghost use Rattle.outside.specs.Files.{IsFile};
-ghost use Rattle.mtgui_top.specs.Scripts.{Script, IsScript};
-ghost use Rattle.mtgui_top.specs.Setups.{assets_of};
-ghost use Rattle.mtgui_top.specs.Looks.{painter};
-ghost use Rattle.mtgui_top.specs.Texts.{frame_text};
-ghost use Rattle.mtgui_top.specs.States.{state_after};
+ghost use Rattle.calls.specs.Lines.{call_of, entry_of, FitsItsTask};
+ghost use Rattle.script.specs.Scripts.{Script, IsScript, IsReady};
+ghost use Rattle.journal.specs.Texts.{reply_text};
+ghost use Rattle.gui_core.specs.States.{step, state_after};
+ghost use Rattle.gui_core.specs.Promises.{changes_windows, window_calls};
+ghost use Rattle.mtgui_top.specs.Machines.{LineDone, IsFresh};
+ghost use Rattle.mtgui_top.specs.Playing.{replies, summary_of, play_text, paint_text, text_for, reason_text};
 ghost use Rattle.mtgui_top.specs.Promises.{ScansShowPainter};
-ghost use Rattle.mtgui_top.specs.Playing.{replies, is_refused, summary_of, play_text, reason_text, paint_text, text_for, fault_line, setup_for, IsCommand};
-ghost use Rattle.mtgui_top.specs.Outcome.{Shows, ShowsFile, Does, WritesText, stop_of, IsStatus, IsComplete};
+ghost use Rattle.mtgui_top.specs.Words.{IsCommand};
+ghost use Rattle.mtgui_top.specs.Outcome.{Shows, ShowsFile, CommandEnds, WritesText, stop_of, IsStatus, IsComplete};
 ghost use Rattle.mtgui_top.specs.declared.command.Verb.{Verb};
 ghost use Rattle.mtgui_top.specs.declared.play.Stop.TheVariants.{Sink, Memory};
 ghost use Rattle.mtgui_top.specs.declared.play.Stop.{Stop};
-ghost use Rattle.mtgui_top.specs.declared.play.Told.{Told};
+ghost use Rattle.mtgui_top.specs.declared.play.Finding.{Finding};
 
 use crate::command::{Verb, command};
-use crate::engine::Engine;
-use crate::fault::{Fault, ReadError, Reason};
-use crate::line::Line;
-use crate::listing::Script;
-use crate::plain::plain_assets;
-use crate::reader::{MOST_BYTES, read};
-use crate::reply::Reply;
-use crate::room::LineRoom;
-use crate::texts::{write_fault, write_frame, write_reply, write_summary};
-use frame::Frame;
+use calls::{Act, Call, Line};
+use gui_core::Gui;
+use journal::{write_fault, write_frame, write_reply, write_summary};
 use outside::{ReadRefused, Sink, SinkFault, Store};
-use paint_ops::Assets;
+use scene::Stack;
+use script::{MOST_BYTES, Reason, Script, ScriptRefused, read};
 use std::alloc::Global;
 
-/// How many refusals a reply counts for.
-fn refusals(reply: &Reply) -> usize
-    ensures value { result ≡ (if is_refused reply.now then 1 else 0) }
-    ensures most { result ≤ 1 }
+/// Does what a line says and writes what it is answered.
+fn perform_line<K: Sink>(
+    alloc: Global,
+    out: &mut K,
+    gui: &mut Gui,
+    line: &Line,
+    taken: &mut Vec<u8>,
+) -> Result<(), SinkFault>
+    requires fits { FitsItsTask line.now }
+    requires room { gui.old.made < gui.old.setup.config.calls }
+    ensures gui { LineDone gui.old line.now gui.new }
+    ensures wrote { Wrote result (K.log out.old) (K.log out.new)
+        (reply_text (call_of line.now)
+        (step gui.old.setup gui.old.state (entry_of line.now)).reply gui.new.state.shown) }
 {
-    match reply {
-        Reply::Done | Reply::Handle(_) | Reply::Jobs(_) => 0,
-        Reply::Refused(_) => 1,
-    }
+    let Line::Task {
+        task,
+        act: Act::Call(call),
+    } = line;
+    let reply = gui.apply(alloc, *task, call, taken);
+    write_reply(out, call, &reply, taken, gui.shown())
 }
 
-/// Makes the calls of lines and writes what they are answered, and the summary.
+/// Does what lines say and writes what they are answered, and the summary. The core was opened for
+/// as many calls, and made none so far.
 fn perform<K: Sink>(
+    alloc: Global,
     out: &mut K,
-    room: &mut LineRoom,
-    engine: &mut Engine,
+    gui: &mut Gui,
     lines: &[Line],
 ) -> Result<(), SinkFault>
-    requires { length lines.now ≤ 400000 }
-    ensures { Wrote result (K.faults out.old) (K.faults out.new) (K.written out.old) (K.written out.new) (replies engine.old.setup engine.old.state lines.now ++ summary_of engine.old.setup engine.old.state lines.now) }
+    requires fits { AllByRecursion FitsItsTask lines.now }
+    requires fresh { IsFresh gui.old (length lines.now) }
+    ensures { Wrote result (K.log out.old) (K.log out.new)
+        (replies gui.old.setup gui.old.state lines.now
+        ++ summary_of gui.old.setup gui.old.state lines.now) }
 {
-    let mut refused = 0;
+    let mut taken = Vec::new(alloc);
     for line in lines {
-        let reply = engine.apply(&line.call);
-        refused += refusals(&reply);
-        write_reply(out, room, &line.call, &reply, engine.shown())?;
+        perform_line(alloc, out, gui, line, &mut taken)?;
     }
-    write_summary(out, room, lines.len(), refused, 0, engine.window_count())
+    let mut windows = Stack::new();
+    gui.windows(&mut windows);
+    write_summary(out, lines.len(), gui.refused() as usize, 0, windows.len())
 }
 
 /// Why a command wasn't done to its end.
@@ -96,83 +109,92 @@ impl From<gfx_base::Memory> for Stop {
     }
 }
 
-/// What was told of a file.
-enum Told {
+/// What a file turned out to be.
+enum Finding {
     Script,
-    Fault,
+    NoScript,
 }
 
-fn play_script<K: Sink>(
-    alloc: Global,
-    script: Script,
-    room: &mut LineRoom,
-    out: &mut K,
-) -> Result<(), Stop>
-    ensures { WritesText result (K.faults out.old) (K.faults out.new) (K.written out.old) (K.written out.new) (play_text script) }
+fn play_script<K: Sink>(alloc: Global, script: Script, out: &mut K) -> Result<(), Stop>
+    requires { IsReady script }
+    ensures { WritesText result (K.log out.old) (K.log out.new) (play_text script) }
 {
-    let (width, height, classes, lines) = script.into_parts();
-    let mut engine = Engine::open(alloc, width, height, classes)?;
-    perform(out, room, &mut engine, &lines)?;
+    let Script {
+        config,
+        assets,
+        lines,
+    } = script;
+    let mut gui = Gui::open_alone(alloc, assets, config)?;
+    perform(alloc, out, &mut gui, &lines)?;
     Ok(())
 }
 
-/// Makes the calls of lines.
-fn make_calls(engine: &mut Engine, lines: &[Line])
-    ensures setup { engine.new.setup ≡ engine.old.setup }
-    ensures state { engine.new.state ≡ state_after engine.old.setup engine.old.state lines.now }
+/// Whether a line may change where windows are, or what they are.
+fn changes_windows(line: &Line) -> bool
+    ensures { result ≡ changes_windows (entry_of line.now) }
 {
-    for line in lines {
-        engine.apply(&line.call);
+    let Line::Task {
+        act: Act::Call(call),
+        ..
+    } = line;
+    match call {
+        Call::Create { .. } => true,
+        Call::Exec | Call::Scan => false,
     }
 }
 
-/// Makes the calls of lines and writes the painter's picture of the windows that they leave.
-fn paint_after<K: Sink>(
-    out: &mut K,
-    room: &mut LineRoom,
-    engine: &mut Engine,
-    lines: &[Line],
-    assets: &Assets,
-    picture: &mut Frame,
-) -> Result<(), SinkFault>
-    requires assets { assets.now ≡ assets_of engine.old.setup }
-    requires width { picture.old.picture.width ≡ engine.old.setup.width }
-    requires height { picture.old.picture.height ≡ engine.old.setup.height }
-    ensures { Wrote result (K.faults out.old) (K.faults out.new) (K.written out.old) (K.written out.new) (frame_text (painter engine.old.setup (state_after engine.old.setup engine.old.state lines.now).windows)) }
+/// Makes a line's call.
+fn make_call(alloc: Global, gui: &mut Gui, line: &Line, taken: &mut Vec<u8>)
+    requires fits { FitsItsTask line.now }
+    requires room { gui.old.made < gui.old.setup.config.calls }
+    ensures { LineDone gui.old line.now gui.new }
 {
-    make_calls(engine, lines);
-    engine.paint(assets, picture);
-    write_frame(out, room, picture)
+    let Line::Task {
+        task,
+        act: Act::Call(call),
+    } = line;
+    gui.apply(alloc, *task, call, taken);
 }
 
-fn paint_script<K: Sink>(
-    alloc: Global,
-    script: Script,
-    room: &mut LineRoom,
-    out: &mut K,
-) -> Result<(), Stop>
-    ensures { WritesText result (K.faults out.old) (K.faults out.new) (K.written out.old) (K.written out.new) (paint_text script) }
+/// Makes those calls of lines that may change windows. The core was opened for as many, and made
+/// none so far.
+fn make_window_calls(alloc: Global, gui: &mut Gui, lines: &[Line])
+    requires fits { AllByRecursion FitsItsTask lines.now }
+    requires fresh { IsFresh gui.old (length lines.now) }
+    ensures setup { gui.new.setup ≡ gui.old.setup }
+    ensures state { gui.new.state
+        ≡ state_after gui.old.setup gui.old.state (window_calls (map entry_of lines.now)) }
 {
-    let (width, height, classes, lines) = script.into_parts();
-    let assets = plain_assets(alloc, &classes)?;
-    let mut picture = Frame::new(alloc, width, height)?;
-    let mut engine = Engine::open(alloc, width, height, classes)?;
-    paint_after(out, room, &mut engine, &lines, &assets, &mut picture)?;
+    let mut taken = Vec::new(alloc);
+    for line in lines {
+        if changes_windows(line) {
+            make_call(alloc, gui, line, &mut taken);
+        }
+    }
+}
+
+fn paint_script<K: Sink>(alloc: Global, script: Script, out: &mut K) -> Result<(), Stop>
+    requires { IsReady script }
+    ensures { WritesText result (K.log out.old) (K.log out.new) (paint_text script) }
+{
+    let Script {
+        config,
+        assets,
+        lines,
+    } = script;
+    let mut gui = Gui::open_alone(alloc, assets, config)?;
+    make_window_calls(alloc, &mut gui, &lines);
+    write_frame(out, &gui.into_painted())?;
     Ok(())
 }
 
-fn write_script<K: Sink>(
-    alloc: Global,
-    verb: Verb,
-    script: Script,
-    room: &mut LineRoom,
-    out: &mut K,
-) -> Result<(), Stop>
-    ensures { WritesText result (K.faults out.old) (K.faults out.new) (K.written out.old) (K.written out.new) (text_for verb script) }
+fn write_script<K: Sink>(alloc: Global, verb: Verb, script: Script, out: &mut K) -> Result<(), Stop>
+    requires { IsReady script }
+    ensures { WritesText result (K.log out.old) (K.log out.new) (text_for verb script) }
 {
     match verb {
-        Verb::Play => play_script(alloc, script, room, out),
-        Verb::Paint => paint_script(alloc, script, room, out),
+        Verb::Play => play_script(alloc, script, out),
+        Verb::Paint => paint_script(alloc, script, out),
     }
 }
 
@@ -195,78 +217,86 @@ fn reason_name(reason: Reason) -> &'static [u8]
 }
 
 /// Writes what a file's bytes say. All memory is taken before the first byte is written.
-fn show<K: Sink>(alloc: Global, verb: Verb, text: &[u8], out: &mut K) -> Result<Told, Stop>
-    ensures { Shows verb result text.now (K.faults out.old) (K.faults out.new) (K.written out.old) (K.written out.new) }
+fn show<K: Sink>(alloc: Global, verb: Verb, text: &[u8], out: &mut K) -> Result<Finding, Stop>
+    ensures { Shows verb result text.now (K.log out.old) (K.log out.new) }
 {
-    let mut room = LineRoom::new(alloc)?;
     match read(alloc, text) {
         Ok(script) => {
-            write_script(alloc, verb, script, &mut room, out)?;
-            Ok(Told::Script)
+            write_script(alloc, verb, script, out)?;
+            Ok(Finding::Script)
         }
-        Err(ReadError::Memory) => Err(Stop::Memory),
-        Err(ReadError::Fault(fault)) => {
-            write_fault(out, &mut room, fault.line, reason_name(fault.reason))?;
-            Ok(Told::Fault)
+        Err(ScriptRefused::Memory) => Err(Stop::Memory),
+        Err(ScriptRefused::Fault(fault)) => {
+            write_fault(out, fault.line, reason_name(fault.why))?;
+            Ok(Finding::NoScript)
         }
     }
 }
 
 /// Reads the file and writes what is asked for of it.
-fn tell<S: Store, K: Sink>(
+fn carry_out<S: Store, K: Sink>(
     alloc: Global,
     verb: Verb,
     name: &str,
     store: &mut S,
     out: &mut K,
-) -> Result<Told, Stop>
-    ensures { Does verb result (S.files store.old) name.now (S.faults store.old) (S.faults store.new) (S.failed store.new) (K.faults out.old) (K.faults out.new) (K.written out.old) (K.written out.new) }
+) -> Result<Finding, Stop>
+    ensures { CommandEnds verb result name.now (S.log store.old) (S.log store.new) (K.log out.old)
+        (K.log out.new) }
 {
     let text = store.read(alloc, name, MOST_BYTES + 1)?;
     show(alloc, verb, &text, out)
 }
 
-/// Does `play FILE` or `paint FILE` and answers the exit status: 0 where the file was read to its end, is a script, and its
-/// text was written; 2 where the words are others; 3 where the file is no script, and its fault line was written; 4 where the
-/// store failed at the file; 5 where the sink failed; 9 where memory ran out.
+/// Does `play FILE` or `paint FILE` and answers the exit status: 0 where the file was read to its
+/// end, is a script, and its text was written; 2 where the words are others; 3 where the file is no
+/// script, and its fault line was written; 4 where the store failed at the file; 5 where the sink
+/// failed; 9 where memory ran out.
 pub fn plain_words<S: Store, K: Sink>(
     alloc: Global,
     words: &[String],
     store: &mut S,
     out: &mut K,
 ) -> u8
-    ensures words { (result ≡ 2) ↔ ((verb : Verb) (name : List ℕ) → IsCommand verb words.now name → ⊥) }
-    // The file is a script, and its play text was written.
+    ensures words { (result ≡ 2)
+        ↔ ((verb : Verb) (name : List ℕ) → IsCommand verb words.now name → ⊥) }
+    // The file is a script, and its play text was written, which at each scan at which no window
+    // waits to be painted has the painter's picture of the windows.
     ensures played { result ≡ 0 → (name : List ℕ) → IsCommand Verb.Play words.now name
-        → ShowsFile Verb.Play (Ok Told.Script) (S.files store.old) name (K.faults out.old) (K.faults out.new) (K.written out.old) (K.written out.new) }
-    // At each scan at which no window waits to be painted, what was written is the painter's picture.
-    ensures scans { result ≡ 0 → (name : List ℕ) → IsCommand Verb.Play words.now name
-        → (file : List ℕ) × (script : Script) × IsFile (S.files store.old) name file × IsScript file script × ScansShowPainter script
-        × Whole (K.faults out.old) (K.faults out.new) (K.written out.old) (K.written out.new) (play_text script) }
-    // The file is a script, and the painter's picture of the windows that its calls leave was written.
+        → (file : List ℕ) × (script : Script) × IsFile (S.log store.old).files name file
+        × IsScript file script × ScansShowPainter script
+        × Whole (K.log out.old) (K.log out.new) (play_text script) }
+    // The file is a script, and the painter's picture of the windows that its calls leave was
+    // written.
     ensures painted { result ≡ 0 → (name : List ℕ) → IsCommand Verb.Paint words.now name
-        → ShowsFile Verb.Paint (Ok Told.Script) (S.files store.old) name (K.faults out.old) (K.faults out.new) (K.written out.old) (K.written out.new) }
+        → (file : List ℕ) × (script : Script) × IsFile (S.log store.old).files name file
+        × IsScript file script
+        × Whole (K.log out.old) (K.log out.new) (paint_text script) }
     // The file is no script, and the line of its fault was written.
     ensures no_script { result ≡ 3 → (verb : Verb) × (name : List ℕ) × IsCommand verb words.now name
-        × ShowsFile verb (Ok Told.Fault) (S.files store.old) name (K.faults out.old) (K.faults out.new) (K.written out.old) (K.written out.new) }
+        × ShowsFile verb (Ok Finding.NoScript) (S.log store.old).files name (K.log out.old)
+        (K.log out.new) }
     // The store failed at that name, and nothing was written.
     ensures store { result ≡ 4 → (verb : Verb) × (name : List ℕ) × IsCommand verb words.now name
-        × Refused (S.faults store.old) (S.faults store.new) (S.failed store.new) name × Whole (K.faults out.old) (K.faults out.new) (K.written out.old) (K.written out.new) [] }
+        × FailedAt (S.log store.old) (S.log store.new) name
+        × Whole (K.log out.old) (K.log out.new) [] }
     // The sink failed, and a front of the file's text was written.
     ensures sink { result ≡ 5 → (verb : Verb) × (name : List ℕ) × IsCommand verb words.now name
-        × ShowsFile verb (Err Stop.Sink) (S.files store.old) name (K.faults out.old) (K.faults out.new) (K.written out.old) (K.written out.new) }
+        × ShowsFile verb (Err Stop.Sink) (S.log store.old).files name (K.log out.old)
+        (K.log out.new) }
     // Where memory ran out, and at other words, nothing was written.
-    ensures nothing { (result ≡ 9) ⊎ (result ≡ 2) → Whole (K.faults out.old) (K.faults out.new) (K.written out.old) (K.written out.new) [] }
+    ensures nothing { (result ≡ 9) ⊎ (result ≡ 2) → Whole (K.log out.old) (K.log out.new) [] }
     ensures status { IsStatus result }
     // A told file is answered by what it says, unless a count rose or memory ran out.
-    ensures complete { IsComplete result words.now (S.files store.old) (S.faults store.old) (S.faults store.new) (K.faults out.old) (K.faults out.new) }
+    ensures complete { IsComplete result words.now (S.log store.old) (S.log store.new)
+        (K.log out.old) (K.log out.new) }
 {
     let Some((verb, name)) = command(words) else {
         return 2;
     };
-    match tell(alloc, verb, name, store, out) {
-        Ok(Told::Script) => 0,
-        Ok(Told::Fault) => 3,
+    match carry_out(alloc, verb, name, store, out) {
+        Ok(Finding::Script) => 0,
+        Ok(Finding::NoScript) => 3,
         Err(Stop::Store) => 4,
         Err(Stop::Sink) => 5,
         Err(Stop::Memory) => 9,

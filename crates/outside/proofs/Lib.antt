@@ -1,2 +1,3 @@
-pub mod Fronts
-pub mod KnownBytes
+mod FrontLemmas
+mod KnownBytes
+pub mod CallerLemmas

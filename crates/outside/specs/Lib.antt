@@ -1,6 +1,6 @@
 pub mod Counts
-pub mod Faults
 pub mod Files
+pub mod Logs
 pub mod SinkContents
 pub mod StoreContents
 pub mod Streams

@@ -1,6 +1,7 @@
 -- What a sink in memory holds, and what a write does to it.
-use Rattle.std.specs.Prelude.{ℕ, ◌+◌, ◌-◌, Bool, ◌&&◌, not, nat_le, if◌then◌else◌, List, [], ◌++◌, length, take}
+use Rattle.std.specs.Prelude.{ℕ, ◌+◌, ◌-◌, Bool, ◌&&◌, not, nat_le, if◌then◌else◌, List, [], ◌++◌, length, take, Some}
 use Rattle.outside.specs.Counts.{one_more, Plan, plan_of, fails, after_call}
+use Rattle.outside.specs.Logs.{SinkLog}
 
 -- the bytes that were written, how many there may be, which writes are to fail, and how many failed
 pub record SinkContents : Type 0 where
@@ -28,3 +29,7 @@ after_write sink piece = record sink {
   plan = after_call sink.plan;
   faults = if takes sink piece then sink.faults else one_more sink.faults;
 }
+
+-- what it tells
+abbrev pub log_of_sink : SinkContents → SinkLog
+log_of_sink sink = record { faults = sink.faults; written = Some sink.bytes }

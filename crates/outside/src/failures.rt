@@ -15,7 +15,10 @@ impl Model for FailedReads {
 
     ghost Value = { Failures };
 
-    ghost view = { λ reads. record { faults = reads.faults; failed = option_map (λ name. string_bytes name) reads.failed } };
+    ghost view = { λ reads. record {
+      faults = reads.faults;
+      failed = option_map (λ name. string_bytes name) reads.failed;
+    } };
 }
 
 impl FailedReads {

@@ -1,7 +1,7 @@
 //! What the program reaches outside: where files are read, and where bytes are written.
 //!
-//! Each object counts its faults. A call answers a fault only where that count rose in the call, or stands at its last
-//! value. The forms in memory tell their contents, and the real ones don't.
+//! Each object counts its faults. A call answers a fault only where that count rose in the call, or
+//! stands at its last value. The forms in memory tell their contents, and the real ones don't.
 #![tactic(auto)]
 
 mod failures;
@@ -13,6 +13,7 @@ mod plan;
 mod sink;
 mod std_sink;
 mod store;
+mod stream;
 
 pub use file_store::FileStore;
 pub use mem_sink::MemSink;
@@ -20,6 +21,4 @@ pub use mem_store::{MemStore, NamedFile};
 pub use sink::{Sink, SinkFault};
 pub use std_sink::StdSink;
 pub use store::{ReadRefused, Store};
-
-#[cfg(test)]
-mod tests;
+pub use stream::{StreamSink, read_front};

@@ -1,5 +1,4 @@
-ghost use Rattle.std.specs.Prelude.{◌≡◌, Some, IfOk, IsOk, is_ok};
-ghost use Rattle.outside.specs.Faults.{Wrote};
+ghost use Rattle.std.specs.Prelude.{◌≡◌, IfOk, IsOk, is_ok};
 
 use crate::front::front_of;
 use crate::plan::FaultPlan;
@@ -30,14 +29,15 @@ impl Model for MemSink {
       faults = sink.faults;
     } };
 
-    ghost invariant = { λ sink. (vec_len sink.bytes ≤ sink.most) × (sink.most ≤ vec_capacity sink.bytes) };
+    ghost invariant = { λ sink. (vec_len sink.bytes ≤ sink.most)
+        × (sink.most ≤ vec_capacity sink.bytes) };
 }
 
 impl MemSink {
     ghost use Rattle.outside.specs.SinkContents.{new_sink};
 
-    /// A sink for `most` bytes, for which it takes the room. `failing` are the numbers, from 0 on, of the writes that are
-    /// to fail.
+    /// A sink for `most` bytes, for which it takes the room. `failing` are the numbers, from 0 on,
+    /// of the writes that are to fail.
     pub fn new(alloc: Global, most: usize, failing: Vec<u64>) -> Result<MemSink, Memory>
         ensures made { IfOk result (λ sink. sink ≡ new_sink most failing.items) }
         ensures nothing_to_take { most ≡ 0 → IsOk result }
@@ -62,15 +62,14 @@ impl MemSink {
 }
 
 impl Sink for MemSink {
-    ghost use Rattle.outside.specs.SinkContents.{takes, after_write};
+    ghost use Rattle.outside.specs.Logs.{Wrote};
+    ghost use Rattle.outside.specs.SinkContents.{takes, after_write, log_of_sink};
 
-    ghost faults = { λ sink. sink.faults };
-
-    ghost written = { λ sink. Some sink.bytes };
+    ghost log = { log_of_sink };
 
     fn write(&mut self, piece: &[u8]) -> Result<(), SinkFault>
         // What each sink promises.
-        ensures wrote { Wrote result self.old.faults self.new.faults (Some self.old.bytes) (Some self.new.bytes) piece.now }
+        ensures wrote { Wrote result (log_of_sink self.old) (log_of_sink self.new) piece.now }
 
         // It is written whole just where the write isn't to fail and the piece fits.
         ensures whole { is_ok result ≡ takes self.old piece.now }

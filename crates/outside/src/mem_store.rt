@@ -1,6 +1,5 @@
-ghost use Rattle.std.specs.Prelude.{◌≡◌, ◌≤◌, Some, None, take, IfOk, OnOk, IsErrOf, option_map};
-ghost use Rattle.outside.specs.Faults.{Refused};
-ghost use Rattle.outside.specs.Files.{Gave, file_of};
+ghost use Rattle.std.specs.Prelude.{◌≡◌, Some, None, take, IfOk, OnOk, IsErrOf, option_map};
+ghost use Rattle.outside.specs.Files.{file_of};
 ghost use Rattle.outside.specs.StoreContents.{files_of};
 
 use crate::failures::FailedReads;
@@ -65,29 +64,26 @@ fn bytes_of<'f>(files: &'f [NamedFile], name: &str) -> Option<&'f [u8]>
 }
 
 impl Store for MemStore {
-    ghost use Rattle.outside.specs.StoreContents.{found, after_read, after_failure};
+    ghost use Rattle.outside.specs.Logs.{Reads};
+    ghost use Rattle.outside.specs.StoreContents.{found, after_read, after_failure, log_of_store};
 
-    ghost faults = { λ store. store.failures.faults };
-
-    ghost failed = { λ store. store.failures.failed };
-
-    ghost files = { λ store. Some store.files };
+    ghost log = { log_of_store };
 
     fn read(&mut self, alloc: Global, name: &str, limit: usize) -> Result<Vec<u8>, ReadRefused>
         // What each store promises.
-        ensures given { IfOk result (λ bytes. Gave (Some self.old.files) name.now limit bytes.items) }
-        ensures files { self.new.files ≡ self.old.files }
-        ensures later { self.old.failures.faults ≤ self.new.failures.faults }
-        ensures cause { IsErrOf result ReadRefused.Failed → Refused self.old.failures.faults self.new.failures.faults self.new.failures.failed name.now }
+        ensures reads { Reads result (log_of_store self.old)
+            (log_of_store self.new) name.now limit }
 
         // A read fails just where it is to fail or no file has the name, unless memory runs out.
-        ensures found { IfOk result (λ bytes. option_map (take limit) (found self.old name.now) ≡ Some bytes.items) }
+        ensures found { IfOk result
+            (λ bytes. option_map (take limit) (found self.old name.now) ≡ Some bytes.items) }
         ensures none { IsErrOf result ReadRefused.Failed → found self.old name.now ≡ None }
 
         // What it leaves.
         ensures ok { OnOk result (self.new ≡ after_read self.old) }
         ensures memory { IsErrOf result ReadRefused.Memory → self.new ≡ after_read self.old }
-        ensures failed { IsErrOf result ReadRefused.Failed → self.new ≡ after_failure self.old name.now }
+        ensures failed { IsErrOf result ReadRefused.Failed
+            → self.new ≡ after_failure self.old name.now }
     {
         let is_to_fail = self.plan.next_fails();
         let Ok(kept_name) = String::from_str(alloc, name) else {

@@ -1,5 +1,5 @@
-ghost use Rattle.std.specs.Prelude.{◌≡◌, ℕ, List, Option};
-ghost use Rattle.outside.specs.Faults.{Wrote};
+ghost use Rattle.std.specs.Prelude.{◌≡◌};
+ghost use Rattle.outside.specs.Logs.{SinkLog, Wrote};
 
 use thiserror::Error;
 
@@ -10,17 +10,14 @@ pub struct SinkFault;
 
 /// Where bytes are written.
 pub trait Sink {
-    /// How many writes have failed.
-    ghost faults: { Self → ℕ };
-
-    /// The bytes that were written, where they are told.
-    ghost written: { Self → Option (List ℕ) };
+    /// How many writes have failed, and the bytes that were written, where they are told.
+    ghost log: { Self → SinkLog };
 
     /// Appends the piece. After a failure a front of it was appended.
     fn write(&mut self, piece: &[u8]) -> Result<(), SinkFault>
-        ensures { Wrote result (faults self.old) (faults self.new) (written self.old) (written self.new) piece.now };
+        ensures { Wrote result (log self.old) (log self.new) piece.now };
 
     /// How many writes have failed, up to the greatest number that fits.
     fn faults(&self) -> u64
-        ensures { result ≡ faults self.now };
+        ensures { result ≡ (log self.now).faults };
 }

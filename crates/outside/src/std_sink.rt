@@ -1,32 +1,11 @@
-ghost use Rattle.std.specs.Prelude.{◌≡◌, None, OnOk, OnErr};
-ghost use Rattle.std.specs.Io.KnownBytes.{Appends};
+ghost use Rattle.std.specs.Prelude.{◌≡◌, OnOk, OnErr};
 ghost use Rattle.outside.specs.Counts.{one_more};
-ghost use Rattle.outside.specs.Faults.{Wrote};
-ghost use Rattle.outside.specs.Streams.{AppendsFront};
+ghost use Rattle.outside.specs.Logs.{Wrote, untold};
 
 use crate::sink::{Sink, SinkFault};
-use std::io::{self, ErrorKind, Print, Write};
+use crate::stream::StreamSink;
+use std::io::{self, Print};
 use std::marker::Model;
-
-/// Writes all of a piece. A write that takes nothing of it is a fault.
-fn write_whole<W: Write>(out: &mut W, piece: &[u8]) -> Result<(), SinkFault>
-    ensures ok { OnOk result (Appends (W.contents out.old) (W.contents out.new) piece.now) }
-    ensures err { OnErr result (AppendsFront (W.contents out.old) (W.contents out.new) piece.now) }
-{
-    let mut rest = piece;
-    for _ in 0..u64::MAX {
-        if rest.is_empty() {
-            return Ok(());
-        }
-        match out.write(rest) {
-            Ok(0) => return Err(SinkFault),
-            Ok(count) => rest = &rest[count..],
-            Err(error) if error.kind() == ErrorKind::Interrupted => {}
-            Err(_) => return Err(SinkFault),
-        }
-    }
-    Err(SinkFault)
-}
 
 /// The standard output. What was written isn't told.
 #[derive(Drop)]
@@ -53,16 +32,14 @@ impl<R> StdSink<R> {
 }
 
 impl<R: Print> Sink for StdSink<R> {
-    ghost faults = { λ faults. faults };
-
-    ghost written = { λ faults. None };
+    ghost log = { untold };
 
     fn write(&mut self, piece: &[u8]) -> Result<(), SinkFault>
-        ensures wrote { Wrote result self.old self.new None None piece.now }
+        ensures wrote { Wrote result (untold self.old) (untold self.new) piece.now }
         ensures ok { OnOk result (self.new ≡ self.old) }
         ensures err { OnErr result (self.new ≡ one_more self.old) }
     {
-        let written = write_whole(&mut io::writer(&self.rt), piece);
+        let written = StreamSink::new(io::writer(&self.rt)).write(piece);
         if written.is_err() {
             self.faults = self.faults.saturating_add(1);
         }

@@ -1,6 +1,5 @@
-ghost use Rattle.std.specs.Prelude.{◌≡◌, ℕ, ◌≤◌, List, Option, IfOk, OnErr, IsErrOf, option_map};
-ghost use Rattle.outside.specs.Files.{File, Gave};
-ghost use Rattle.outside.specs.Faults.{Refused};
+ghost use Rattle.std.specs.Prelude.{◌≡◌, option_map};
+ghost use Rattle.outside.specs.Logs.{StoreLog, Reads};
 
 use std::alloc::Global;
 use thiserror::Error;
@@ -16,27 +15,20 @@ pub enum ReadRefused {
 
 /// Where files are read.
 pub trait Store {
-    /// How many reads have failed.
-    ghost faults: { Self → ℕ };
+    /// How many reads have failed, the name of the last of them, and the files, where they are
+    /// told.
+    ghost log: { Self → StoreLog };
 
-    /// The name of the last read that failed.
-    ghost failed: { Self → Option (List ℕ) };
-
-    /// The files, where they are told.
-    ghost files: { Self → Option (List File) };
-
-    /// The first `limit` bytes of the named file, or all of a shorter one.
+    /// The first `limit` bytes of the named file, or all of a shorter one. Any other answer than
+    /// `Failed` leaves the name of the last failure as it was.
     fn read(&mut self, alloc: Global, name: &str, limit: usize) -> Result<Vec<u8>, ReadRefused>
-        ensures given { IfOk result (λ bytes. Gave (files self.old) name.now limit bytes.items) }
-        ensures files { files self.new ≡ files self.old }
-        ensures later { faults self.old ≤ faults self.new }
-        ensures cause { IsErrOf result ReadRefused.Failed → Refused (faults self.old) (faults self.new) (failed self.new) name.now };
+        ensures { Reads result (log self.old) (log self.new) name.now limit };
 
     /// The name of the last read that answered `Failed`, and `None` before the first.
     fn failed(&self) -> Option<&str>
-        ensures { option_map (λ name. name.now) result ≡ failed self.now };
+        ensures { option_map (λ name. name.now) result ≡ (log self.now).failed };
 
     /// How many reads have answered `Failed`, up to the greatest number that fits.
     fn faults(&self) -> u64
-        ensures { result ≡ faults self.now };
+        ensures { result ≡ (log self.now).faults };
 }

@@ -1,10 +1,11 @@
-pub mod RowLemmas
-pub mod StripLemmas
-pub mod PaneLemmas
-pub mod FillLemmas
-pub mod ColumnLemmas
-pub mod CellLemmas
-pub mod TextLemmas
-pub mod PenLemmas
-pub mod ScreenLemmas
-pub mod SpanLemmas
+pub mod CallerLemmas
+mod CellLemmas
+mod ColumnLemmas
+mod FillLemmas
+mod PaneLemmas
+mod PenLemmas
+mod RowLemmas
+mod ScreenLemmas
+mod SpanLemmas
+mod StripLemmas
+mod TextLemmas

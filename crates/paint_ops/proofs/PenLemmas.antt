@@ -8,12 +8,12 @@ use Rattle.std.proofs.lemmas.List.Folds.{Any-from_list_any, list_any-from_Any}
 use Rattle.gfx_base.specs.declared.point.Point.{Point}
 use Rattle.gfx_base.specs.declared.rect.Rect.{Rect}
 use Rattle.gfx_base.specs.Rects.{has, point_at}
-use Rattle.gfx_base.proofs.RectLemmas.{same_point}
+use Rattle.gfx_base.proofs.CallerLemmas.{same_point}
 use Rattle.line_ink.specs.Lines.{is_on_line, points_of_line, clipped}
-use Rattle.line_ink.proofs.PointLemmas.{clipped-member}
+use Rattle.line_ink.proofs.CallerLemmas.{clipped-member}
 use Rattle.frame.specs.Pictures.{Picture, HasShape}
 use Rattle.frame.specs.Areas.{is_at}
-use Rattle.frame.proofs.PictureLaws.{has_shape-changed}
+use Rattle.frame.proofs.CallerLemmas.{has_shape-changed}
 use Rattle.paint_ops.specs.declared.pen.Pen.{Pen}
 use Rattle.paint_ops.specs.declared.strip.Strip.{Strip}
 use Rattle.paint_ops.specs.Operations.{on_points, seen_from}

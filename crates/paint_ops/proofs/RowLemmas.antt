@@ -3,7 +3,7 @@ use Rattle.std.proofs.Common.{◌≡◌, ℕ, ◌<◌, Bool, true, false, cond, 
 use Rattle.std.specs.Prelude.{is_some, unwrap_or}
 use Rattle.frame.specs.Pictures.{Picture, HasShape, colour_at, changed}
 use Rattle.frame.specs.Areas.{is_at, in_span}
-use Rattle.frame.proofs.PictureLaws.{equal_by_points, colour_at-changed, has_shape-changed, changed-same}
+use Rattle.frame.proofs.CallerLemmas.{equal_by_points, colour_at-changed, has_shape-changed, changed-same}
 use Rattle.paint_ops.specs.Operations.{on_points}
 use Rattle.paint_ops.specs.Rows.{row_drawn}
 use Rattle.paint_ops.specs.Strips.{FitsIn}

@@ -5,7 +5,8 @@ use Rattle.paint_ops.specs.declared.class.Reaction.{Reaction}
 use Rattle.bitmap.specs.Bitmaps.{Bitmap}
 use Rattle.glyph_font.specs.Fonts.{Font}
 
--- a class: the colour behind its operations, if any, its operations from first to last, and its reactions
+-- a class: the colour behind its operations, if any, its operations from first to last, and its
+-- reactions
 pub record Class : Type 0 where
   pub back : Option ℕ
   pub ops : List Op

@@ -7,8 +7,8 @@ use Rattle.paint_ops.specs.declared.pane.Pane.{Pane}
 use Rattle.paint_ops.specs.Operations.{Inputs}
 use Rattle.paint_ops.specs.Rows.{IsOrigin}
 
-abbrev pub inputs_of : Pane → Inputs
-inputs_of pane = record { values = pane.values.now; width = pane.width; height = pane.height }
+abbrev pub inputs_of_pane : Pane → Inputs
+inputs_of_pane pane = record { values = pane.values.now; width = pane.width; height = pane.height }
 
 -- the window is at most 4,096 points wide and high, and its corner lies within 65,535 points
 pub record IsPane (pane : Pane) : Type 0 where
@@ -27,4 +27,10 @@ point_on_screen origin p = point_at (origin.x +ℤ p.x) (origin.y +ℤ p.y)
 
 -- a window's rectangle as one of the screen
 abbrev pub rect_on_screen : Point → Rect → Rect
-rect_on_screen origin r = record { x0 = origin.x +ℤ r.x0; y0 = origin.y +ℤ r.y0; x1 = origin.x +ℤ r.x1; y1 = origin.y +ℤ r.y1 }
+rect_on_screen origin r =
+    record {
+      x0 = origin.x +ℤ r.x0;
+      y0 = origin.y +ℤ r.y0;
+      x1 = origin.x +ℤ r.x1;
+      y1 = origin.y +ℤ r.y1;
+    }

@@ -9,17 +9,22 @@ use Rattle.paint_ops.specs.declared.op.Op.{Op}
 use Rattle.paint_ops.specs.Kinds.{Assets}
 use Rattle.paint_ops.specs.Operations.{Inputs, seen_from, colour_of_operation}
 
--- the picture with colours on the row at y, in the columns that a test names and to which a function gives one
+-- the picture with colours on the row at y, in the columns that a test names and to which a
+-- function gives one
 abbrev pub row_drawn : Picture → ℕ → (ℕ → Bool) → (ℕ → Option ℕ) → Picture
-row_drawn p y here colour = changed p (λ u v. v == y && (here u && is_some (colour u))) (λ u v. unwrap_or (colour u) 0)
+row_drawn p y here colour =
+    changed p (λ u v. v == y && (here u && is_some (colour u))) (λ u v. unwrap_or (colour u) 0)
 
--- the colour that an operation of a window puts on a point of the screen, where the window's upper left corner lies at origin
+-- the colour that an operation of a window puts on a point of the screen, where the window's upper
+-- left corner lies at origin
 abbrev pub colour_on_screen : Assets → Inputs → Op → Point → ℕ → ℕ → Option ℕ
-colour_on_screen assets inputs op origin u v = colour_of_operation assets inputs op (seen_from origin (point_at (pos u) (pos v)))
+colour_on_screen assets inputs op origin u v =
+    colour_of_operation assets inputs op (seen_from origin (point_at (pos u) (pos v)))
 
 -- the picture with an operation drawn on the row at y inside the spans
 abbrev pub operation_drawn : Assets → Inputs → Op → Point → ℕ → List Span → Picture → Picture
-operation_drawn assets inputs op origin y spans p = row_drawn p y (λ u. in_spans spans (pos u)) (λ u. colour_on_screen assets inputs op origin u y)
+operation_drawn assets inputs op origin y spans p =
+    row_drawn p y (λ u. in_spans spans (pos u)) (λ u. colour_on_screen assets inputs op origin u y)
 
 -- the number lies from −65,535 to 65,535
 abbrev pub IsOrigin : ℤ → Type 0

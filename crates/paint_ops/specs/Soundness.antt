@@ -27,8 +27,10 @@ IsOperation assets (op.HLine x0 x1 y colour) = IsNum x0 × IsNum x1 × IsNum y
 IsOperation assets (op.VLine x y0 y1 colour) = IsNum x × IsNum y0 × IsNum y1
 IsOperation assets (op.Line x0 y0 x1 y1 colour) = IsNum x0 × IsNum y0 × IsNum x1 × IsNum y1
 IsOperation assets (op.Bitmap bitmap x y) = (bitmap < length assets.bitmaps) × IsNum x × IsNum y
-IsOperation assets (op.Text font x y colour string) = (font < length assets.fonts) × IsNum x × IsNum y × (string < length assets.strings)
-IsOperation assets (op.Number font x y colour num) = (font < length assets.fonts) × IsNum x × IsNum y × IsNum num
+IsOperation assets (op.Text font x y colour string) =
+    (font < length assets.fonts) × IsNum x × IsNum y × (string < length assets.strings)
+IsOperation assets (op.Number font x y colour num) =
+    (font < length assets.fonts) × IsNum x × IsNum y × IsNum num
 
 abbrev pub IsReact : React → Type 0
 IsReact (react.Set i operand) = i < 16

@@ -23,7 +23,12 @@ impl Model for Assets {
 
     ghost Value = { Content };
 
-    ghost view = { λ a. record { classes = a.classes.items; fonts = a.fonts.items; bitmaps = a.bitmaps.items; strings = a.strings.items } };
+    ghost view = { λ a. record {
+      classes = a.classes.items;
+      fonts = a.fonts.items;
+      bitmaps = a.bitmaps.items;
+      strings = a.strings.items;
+    } };
 }
 
 impl Assets {

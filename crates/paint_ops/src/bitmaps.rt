@@ -23,14 +23,16 @@ fn put_found(found: Option<Colour>, x: u16, y: u16, target: &mut Frame)
     }
 }
 
-/// Draws a row of a bitmap in the columns of a part, which lie in the bitmap. The bitmap's left column lies at x.
+/// Draws a row of a bitmap in the columns of a part, which lie in the bitmap. The bitmap's left
+/// column lies at x.
 fn draw_points(bitmap: &Bitmap, x: i32, row: u16, part: Strip, target: &mut Frame)
     requires part { FitsIn target.old.picture part }
     requires inside { (x ≤ℤ pos part.left) × (pos part.right <ℤ (x +ℤ pos bitmap.now.width)) }
     requires width { bitmap.now.width ≤ 256 }
     requires row { row < bitmap.now.height }
     requires x { IsNear x }
-    ensures { target.new.picture ≡ row_drawn target.old.picture part.y (in_strip part) (λ u. bitmap_colour bitmap.now (pos u -ℤ x) (pos row)) }
+    ensures { target.new.picture ≡ row_drawn target.old.picture part.y (in_strip part)
+        (λ u. bitmap_colour bitmap.now (pos u -ℤ x) (pos row)) }
 {
     for u in part.left..part.right + 1 {
         put_found(bitmap.at((i32::from(u) - x) as u16, row), u, part.y, target);
@@ -42,7 +44,8 @@ fn draw_row(bitmap: &Bitmap, x: i32, row: u16, strip: Strip, target: &mut Frame)
     requires strip { FitsIn target.old.picture strip }
     requires row { row < bitmap.now.height }
     requires x { IsNear x }
-    ensures { target.new.picture ≡ row_drawn target.old.picture strip.y (in_strip strip) (λ u. bitmap_colour bitmap.now (pos u -ℤ x) (pos row)) }
+    ensures { target.new.picture ≡ row_drawn target.old.picture strip.y (in_strip strip)
+        (λ u. bitmap_colour bitmap.now (pos u -ℤ x) (pos row)) }
 {
     let last = x + i32::from(bitmap.width()) - 1;
     if let Some(part) = strip.cut(x, last) {
@@ -54,7 +57,8 @@ fn draw_row(bitmap: &Bitmap, x: i32, row: u16, strip: Strip, target: &mut Frame)
 pub fn draw_bitmap(bitmap: &Bitmap, corner: Point, strip: Strip, target: &mut Frame)
     requires strip { FitsIn target.old.picture strip }
     requires corner { IsNear corner.x × IsNear corner.y }
-    ensures { target.new.picture ≡ row_drawn target.old.picture strip.y (in_strip strip) (λ u. bitmap_colour bitmap.now (pos u -ℤ corner.x) (pos strip.y -ℤ corner.y)) }
+    ensures { target.new.picture ≡ row_drawn target.old.picture strip.y (in_strip strip)
+        (λ u. bitmap_colour bitmap.now (pos u -ℤ corner.x) (pos strip.y -ℤ corner.y)) }
 {
     let row = i32::from(strip.y) - corner.y;
     if 0 <= row && row < i32::from(bitmap.height()) {

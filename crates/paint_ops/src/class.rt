@@ -9,8 +9,8 @@ pub enum Operand {
     Argument,
 }
 
-/// What a window does at a message: it sets one of its sixteen values, adds to one, or hands on a message of this number to
-/// its parent.
+/// What a window does at a message: it sets one of its sixteen values, adds to one, or hands on a
+/// message of this number to its parent.
 #[derive(Clone, Copy, Debug, PartialEq, Eq)]
 pub enum React {
     Set(u8, Operand),
@@ -25,7 +25,8 @@ pub struct Reaction {
     pub react: React,
 }
 
-/// A class of windows: the colour behind its operations, or none, its operations from first to last, and its reactions.
+/// A class of windows: the colour behind its operations, or none, its operations from first to
+/// last, and its reactions.
 #[derive(Drop)]
 pub struct Class {
     pub back: Option<Colour>,
@@ -38,5 +39,9 @@ impl Model for Class {
 
     ghost Value = { Content };
 
-    ghost view = { λ c. record { back = c.back; ops = c.ops.items; reactions = c.reactions.items } };
+    ghost view = { λ c. record {
+      back = c.back;
+      ops = c.ops.items;
+      reactions = c.reactions.items;
+    } };
 }

@@ -4,7 +4,7 @@ ghost use Rattle.paint_ops.specs.Soundness.{IsSound, IsOperation};
 ghost use Rattle.paint_ops.specs.Operations.{Inputs};
 ghost use Rattle.paint_ops.specs.Rows.{IsOrigin, LiesInRow, colour_on_screen, operation_drawn, row_drawn};
 ghost use Rattle.paint_ops.specs.Strips.{FitsIn, in_strip};
-ghost use Rattle.paint_ops.specs.Panes.{inputs_of, IsPane};
+ghost use Rattle.paint_ops.specs.Panes.{inputs_of_pane, IsPane};
 
 use crate::assets::Assets;
 use crate::bitmaps::draw_bitmap;
@@ -23,7 +23,9 @@ fn draw_in(op: &Op, pane: &Pane, strip: Strip, assets: &Assets, target: &mut Fra
     requires operation { IsOperation assets.now op.now }
     requires pane { IsPane pane.now }
     requires strip { FitsIn target.old.picture strip }
-    ensures { target.new.picture ≡ row_drawn target.old.picture strip.y (in_strip strip) (λ u. colour_on_screen assets.now (inputs_of pane.now) op.now pane.now.origin u strip.y) }
+    ensures { target.new.picture ≡ row_drawn target.old.picture strip.y (in_strip strip)
+        (λ u. colour_on_screen assets.now (inputs_of_pane pane.now) op.now pane.now.origin u
+        strip.y) }
 {
     match *op {
         Op::Fill(x0, y0, x1, y1, colour) => {
@@ -80,10 +82,11 @@ fn draw_in(op: &Op, pane: &Pane, strip: Strip, assets: &Assets, target: &mut Fra
     }
 }
 
-/// Draws an operation of a window on the row `y` of a frame, inside the spans: the points of them that the operation covers get
-/// its colours, and no other point changes. The window has these values, is `w` by `h` points large, each at most 4,096, and
-/// its upper left corner lies at `origin`, whose numbers are from −65,535 to 65,535. Coordinates are added exactly. The row
-/// and the points of the spans lie on the frame, and the assets have all that the operation names.
+/// Draws an operation of a window on the row `y` of a frame, inside the spans: the points of them
+/// that the operation covers get its colours, and no other point changes. The window has these
+/// values, is `w` by `h` points large, each at most 4,096, and its upper left corner lies at
+/// `origin`, whose numbers are from −65,535 to 65,535. Coordinates are added exactly. The row and
+/// the points of the spans lie on the frame, and the assets have all that the operation names.
 pub fn draw(
     op: &Op,
     values: &[i16; 16],
@@ -101,7 +104,9 @@ pub fn draw(
     requires origin { IsOrigin origin.x × IsOrigin origin.y }
     requires row { y < target.old.picture.height }
     requires spans { AllByRecursion (LiesInRow target.old.picture.width) spans.now }
-    ensures { target.new.picture ≡ operation_drawn assets.now (record { values = values.now; width = w; height = h }) op.now origin y spans.now target.old.picture }
+    ensures { target.new.picture ≡ operation_drawn assets.now
+        (record { values = values.now; width = w; height = h }) op.now origin y spans.now
+        target.old.picture }
 {
     let pane = Pane {
         values,

@@ -15,7 +15,8 @@ use gfx_base::{Colour, Rect};
 /// Fills what the columns from x0 to x1 have in a strip.
 fn fill_columns(x0: i32, x1: i32, strip: Strip, colour: Colour, target: &mut Frame)
     requires strip { FitsIn target.old.picture strip }
-    ensures { target.new.picture ≡ row_drawn target.old.picture strip.y (in_strip strip) (λ u. on_points (is_within x0 x1 (pos u)) colour) }
+    ensures { target.new.picture ≡ row_drawn target.old.picture strip.y (in_strip strip)
+        (λ u. on_points (is_within x0 x1 (pos u)) colour) }
 {
     if let Some(part) = strip.cut(x0, x1) {
         target.fill_span(part.y, part.left, part.right, colour);
@@ -25,7 +26,8 @@ fn fill_columns(x0: i32, x1: i32, strip: Strip, colour: Colour, target: &mut Fra
 /// Fills what a rectangle of the screen has in a strip.
 pub fn fill_rect(rect: &Rect, strip: Strip, colour: Colour, target: &mut Frame)
     requires strip { FitsIn target.old.picture strip }
-    ensures { target.new.picture ≡ row_drawn target.old.picture strip.y (in_strip strip) (λ u. on_points (has rect.now (point_at (pos u) (pos strip.y))) colour) }
+    ensures { target.new.picture ≡ row_drawn target.old.picture strip.y (in_strip strip)
+        (λ u. on_points (has rect.now (point_at (pos u) (pos strip.y))) colour) }
 {
     let y = i32::from(strip.y);
     if rect.y0 <= y && y <= rect.y1 {
@@ -36,7 +38,9 @@ pub fn fill_rect(rect: &Rect, strip: Strip, colour: Colour, target: &mut Frame)
 /// Draws what a rectangle's left and right edges have in a strip.
 fn draw_sides(rect: &Rect, strip: Strip, colour: Colour, target: &mut Frame)
     requires strip { FitsIn target.old.picture strip }
-    ensures { target.new.picture ≡ row_drawn target.old.picture strip.y (in_strip strip) (λ u. on_points (has rect.now (point_at (pos u) (pos strip.y)) && (int_eq (pos u) rect.now.x0 || int_eq (pos u) rect.now.x1)) colour) }
+    ensures { target.new.picture ≡ row_drawn target.old.picture strip.y (in_strip strip)
+        (λ u. on_points (has rect.now (point_at (pos u) (pos strip.y))
+        && (int_eq (pos u) rect.now.x0 || int_eq (pos u) rect.now.x1)) colour) }
 {
     if rect.x0 <= rect.x1 {
         let left = Rect {
@@ -59,7 +63,8 @@ fn draw_sides(rect: &Rect, strip: Strip, colour: Colour, target: &mut Frame)
 /// Draws what the edge of a rectangle of the screen has in a strip.
 pub fn draw_edge(rect: &Rect, strip: Strip, colour: Colour, target: &mut Frame)
     requires strip { FitsIn target.old.picture strip }
-    ensures { target.new.picture ≡ row_drawn target.old.picture strip.y (in_strip strip) (λ u. on_points (is_on_edge rect.now (point_at (pos u) (pos strip.y))) colour) }
+    ensures { target.new.picture ≡ row_drawn target.old.picture strip.y (in_strip strip)
+        (λ u. on_points (is_on_edge rect.now (point_at (pos u) (pos strip.y))) colour) }
 {
     let y = i32::from(strip.y);
     if y == rect.y0 || y == rect.y1 {

@@ -15,7 +15,8 @@ use gfx_base::{Colour, Point};
 use glyph_font::Font;
 use itoa::Buffer;
 
-/// Draws a row of one glyph in the columns of a part, which lie in the glyph. The glyph's left column lies at x.
+/// Draws a row of one glyph in the columns of a part, which lie in the glyph. The glyph's left
+/// column lies at x.
 fn draw_glyph(
     font: &Font,
     code: u8,
@@ -26,10 +27,12 @@ fn draw_glyph(
     target: &mut Frame,
 )
     requires part { FitsIn target.old.picture part }
-    requires inside { (x ≤ℤ pos part.left) × (pos part.right <ℤ (x +ℤ pos (width_of_code font.now code))) }
+    requires inside { (x ≤ℤ pos part.left)
+        × (pos part.right <ℤ (x +ℤ pos (width_of_code font.now code))) }
     requires width { width_of_code font.now code ≤ 255 }
     requires x { IsNear x }
-    ensures { target.new.picture ≡ row_drawn target.old.picture part.y (in_strip part) (λ u. on_points (is_in_text font.now (code ∷ []) (pos u -ℤ x) (pos row)) colour) }
+    ensures { target.new.picture ≡ row_drawn target.old.picture part.y (in_strip part)
+        (λ u. on_points (is_in_text font.now (code ∷ []) (pos u -ℤ x) (pos row)) colour) }
 {
     for u in part.left..part.right + 1 {
         if font.is_set(code, (i32::from(u) - x) as u8, row) {
@@ -50,7 +53,8 @@ fn draw_cell(
 )
     requires strip { FitsIn target.old.picture strip }
     requires x { IsNear x }
-    ensures { target.new.picture ≡ row_drawn target.old.picture strip.y (in_strip strip) (λ u. on_points (is_in_text font.now (code ∷ []) (pos u -ℤ x) (pos row)) colour) }
+    ensures { target.new.picture ≡ row_drawn target.old.picture strip.y (in_strip strip)
+        (λ u. on_points (is_in_text font.now (code ∷ []) (pos u -ℤ x) (pos row)) colour) }
 {
     let last = x + i32::from(font.width(code)) - 1;
     if let Some(part) = strip.cut(x, last) {
@@ -71,7 +75,8 @@ fn draw_cells(
     requires few { length text.now ≤ 64 }
     requires strip { FitsIn target.old.picture strip }
     requires x { IsNear x }
-    ensures { target.new.picture ≡ row_drawn target.old.picture strip.y (in_strip strip) (λ u. on_points (is_in_text font.now text.now (pos u -ℤ x) (pos row)) colour) }
+    ensures { target.new.picture ≡ row_drawn target.old.picture strip.y (in_strip strip)
+        (λ u. on_points (is_in_text font.now text.now (pos u -ℤ x) (pos row)) colour) }
 {
     let mut left = x;
     for code in text {
@@ -83,7 +88,8 @@ fn draw_cells(
     }
 }
 
-/// Draws what a text of at most 64 bytes has in a strip. The first glyph's upper left point lies at the corner.
+/// Draws what a text of at most 64 bytes has in a strip. The first glyph's upper left point lies at
+/// the corner.
 pub fn draw_text(
     font: &Font,
     text: &[u8],
@@ -95,7 +101,9 @@ pub fn draw_text(
     requires few { length text.now ≤ 64 }
     requires strip { FitsIn target.old.picture strip }
     requires corner { IsNear corner.x × IsNear corner.y }
-    ensures { target.new.picture ≡ row_drawn target.old.picture strip.y (in_strip strip) (λ u. text_colour font.now text.now (seen_from corner (point_at (pos u) (pos strip.y))) colour) }
+    ensures { target.new.picture ≡ row_drawn target.old.picture strip.y (in_strip strip)
+        (λ u. text_colour font.now text.now
+        (seen_from corner (point_at (pos u) (pos strip.y))) colour) }
 {
     let row = i32::from(strip.y) - corner.y;
     if 0 <= row && row < i32::from(font.height()) {
@@ -114,7 +122,9 @@ pub fn draw_number(
 )
     requires strip { FitsIn target.old.picture strip }
     requires corner { IsNear corner.x × IsNear corner.y }
-    ensures { target.new.picture ≡ row_drawn target.old.picture strip.y (in_strip strip) (λ u. text_colour font.now (signed_decimal number) (seen_from corner (point_at (pos u) (pos strip.y))) colour) }
+    ensures { target.new.picture ≡ row_drawn target.old.picture strip.y (in_strip strip)
+        (λ u. text_colour font.now (signed_decimal number)
+        (seen_from corner (point_at (pos u) (pos strip.y))) colour) }
 {
     let mut buffer = Buffer::new();
     let digits = buffer.format(number).as_bytes();

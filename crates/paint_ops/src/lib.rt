@@ -1,4 +1,5 @@
-//! Drawing operations of window classes: their data, and drawing one of them on one row of a frame inside spans.
+//! Drawing operations of window classes: their data, and drawing one of them on one row of a frame
+//! inside spans.
 #![tactic(auto)]
 
 mod assets;
@@ -21,6 +22,3 @@ pub use drawing::draw;
 pub use num::{Base, Num};
 pub use op::Op;
 pub use text::Text;
-
-#[cfg(test)]
-mod tests;

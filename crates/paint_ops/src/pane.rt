@@ -1,12 +1,13 @@
 ghost use Rattle.std.specs.Prelude.{◌≡◌, pos, neg_ℤ, ◌≤ℤ◌};
 ghost use Rattle.gfx_base.specs.Range.{IsNear};
 ghost use Rattle.paint_ops.specs.Soundness.{IsBase, IsNum};
-ghost use Rattle.paint_ops.specs.Operations.{base_of, number_of, place_of, rect_of};
+ghost use Rattle.paint_ops.specs.Operations.{base_of, number_of, point_of_numbers, rect_of};
 
 use crate::num::{Base, Num};
 use gfx_base::{Point, Rect};
 
-/// A window as its operations see it: its values, its size in points, and where its upper left corner lies on the screen.
+/// A window as its operations see it: its values, its size in points, and where its upper left
+/// corner lies on the screen.
 #[derive(Clone, Copy)]
 pub struct Pane<'v> {
     pub values: &'v [i16; 16],
@@ -16,12 +17,12 @@ pub struct Pane<'v> {
 }
 
 impl<'v> Pane<'v> {
-    ghost use Rattle.paint_ops.specs.Panes.{inputs_of, IsPane, IsCoordinate, point_on_screen, rect_on_screen};
+    ghost use Rattle.paint_ops.specs.Panes.{inputs_of_pane, IsPane, IsCoordinate, point_on_screen, rect_on_screen};
 
     fn base(&self, base: Base) -> i32
         requires pane { IsPane self.now }
         requires base { IsBase base }
-        ensures value { result ≡ base_of (inputs_of self.now) base }
+        ensures value { result ≡ base_of (inputs_of_pane self.now) base }
         ensures range { (neg_ℤ (pos 32768) ≤ℤ result) × (result ≤ℤ pos 32767) }
     {
         match base {
@@ -36,7 +37,7 @@ impl<'v> Pane<'v> {
     pub fn number(&self, num: Num) -> i32
         requires pane { IsPane self.now }
         requires num { IsNum num }
-        ensures value { result ≡ number_of (inputs_of self.now) num }
+        ensures value { result ≡ number_of (inputs_of_pane self.now) num }
         ensures range { IsCoordinate result }
     {
         self.base(num.base) + i32::from(num.plus)
@@ -46,7 +47,7 @@ impl<'v> Pane<'v> {
     pub fn place(&self, x: Num, y: Num) -> Point
         requires pane { IsPane self.now }
         requires nums { IsNum x × IsNum y }
-        ensures value { result ≡ place_of (inputs_of self.now) x y }
+        ensures value { result ≡ point_of_numbers (inputs_of_pane self.now) x y }
         ensures range { IsCoordinate result.x × IsCoordinate result.y }
     {
         Point {
@@ -59,7 +60,8 @@ impl<'v> Pane<'v> {
     pub fn corner(&self, x: Num, y: Num) -> Point
         requires pane { IsPane self.now }
         requires nums { IsNum x × IsNum y }
-        ensures value { result ≡ point_on_screen self.now.origin (place_of (inputs_of self.now) x y) }
+        ensures value { result ≡ point_on_screen self.now.origin
+            (point_of_numbers (inputs_of_pane self.now) x y) }
         ensures range { IsNear result.x × IsNear result.y }
     {
         Point {
@@ -72,7 +74,8 @@ impl<'v> Pane<'v> {
     pub fn rect(&self, x0: Num, y0: Num, x1: Num, y1: Num) -> Rect
         requires pane { IsPane self.now }
         requires nums { IsNum x0 × IsNum y0 × IsNum x1 × IsNum y1 }
-        ensures { result ≡ rect_on_screen self.now.origin (rect_of (inputs_of self.now) x0 y0 x1 y1) }
+        ensures { result ≡ rect_on_screen self.now.origin
+            (rect_of (inputs_of_pane self.now) x0 y0 x1 y1) }
     {
         Rect {
             x0: self.origin.x + self.number(x0),

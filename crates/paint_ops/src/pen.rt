@@ -29,9 +29,16 @@ impl<'f> Plot for Pen<'f> {
 
     ghost may_put = { λ pen p. IsReady pen.target.now.picture pen.origin pen.y p };
 
-    ghost after = { λ pen p. record pen { target = record pen.target { now = after_point pen.target.now pen.origin pen.y pen.colour p } } };
+    ghost after = { λ pen p. record pen {
+      target = record pen.target { now = after_point pen.target.now pen.origin pen.y pen.colour p };
+    } };
 
-    ghost stays = { λ pen p q h. record { row = h.row; not_too_wide = h.not_too_wide; not_left = h.not_left; not_right = h.not_right } };
+    ghost stays = { λ pen p q h. record {
+      row = h.row;
+      not_too_wide = h.not_too_wide;
+      not_left = h.not_left;
+      not_right = h.not_right;
+    } };
 
     fn put(&mut self, p: Point) {
         self.target
@@ -51,7 +58,9 @@ pub fn draw_line(
     requires ends { IsInReach a.x × IsInReach a.y × IsInReach b.x × IsInReach b.y }
     requires origin { IsOrigin origin.x × IsOrigin origin.y }
     requires strip { FitsIn target.old.picture strip }
-    ensures { target.new.picture ≡ row_drawn target.old.picture strip.y (in_strip strip) (λ u. on_points (is_on_line a b (seen_from origin (point_at (pos u) (pos strip.y)))) colour) }
+    ensures { target.new.picture ≡ row_drawn target.old.picture strip.y (in_strip strip)
+        (λ u. on_points (is_on_line a b
+        (seen_from origin (point_at (pos u) (pos strip.y)))) colour) }
 {
     let y = i32::from(strip.y) - origin.y;
     let clip = Rect {

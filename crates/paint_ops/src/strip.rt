@@ -19,7 +19,8 @@ impl Strip {
     /// The columns of a span in a row of this width, or `None` where it has none.
     pub fn of(span: Span, y: u16, width: u16) -> Option<Strip>
         requires width { 1 ≤ width }
-        ensures fits { (p : Picture) → HasShape p → width ≡ p.width → y < p.height → IfSome result (FitsIn p) }
+        ensures fits { (p : Picture) → HasShape p → width ≡ p.width → y < p.height
+            → IfSome result (FitsIn p) }
         ensures row { IfSome result (λ s. s.y ≡ y) }
         ensures columns { (u : ℕ) → u < width → in_some_strip result u ≡ in_span span (pos u) }
     {
@@ -36,7 +37,8 @@ impl Strip {
         ensures fits { (p : Picture) → FitsIn p self → IfSome result (FitsIn p) }
         ensures row { IfSome result (λ s. s.y ≡ self.y) }
         ensures within { IfSome result (λ s. (x0 ≤ℤ pos s.left) × (pos s.right ≤ℤ x1)) }
-        ensures columns { (u : ℕ) → in_some_strip result u ≡ (in_strip self u && is_within x0 x1 (pos u)) }
+        ensures columns { (u : ℕ) → in_some_strip result u
+            ≡ (in_strip self u && is_within x0 x1 (pos u)) }
     {
         let left = x0.max(i32::from(self.left));
         let right = x1.min(i32::from(self.right));

@@ -1,7 +1,8 @@
 ghost use Rattle.std.specs.Prelude.{◌≡◌, ◌≤◌, ◌↔◌, length, IsSome, IfSome};
-ghost use Rattle.paint_ops.specs.Texts.{IsText, is_printable};
+ghost use Rattle.paint_ops.specs.Texts.{IsText};
 
 use arrayvec::ArrayVec;
+use spelling::is_printable;
 use std::marker::Model;
 
 /// The most bytes of a text.
@@ -24,14 +25,9 @@ impl Model for Text {
     ghost invariant = { λ t. IsText t.bytes.items };
 }
 
-fn is_printable(bytes: &[u8]) -> bool
-    ensures { result ≡ is_printable bytes.now }
-{
-    bytes.iter().all(|b| (32..=126).contains(b))
-}
-
 impl Text {
-    /// The text of these bytes, or `None` where there are more than 64 or one lies outside 32 to 126.
+    /// The text of these bytes, or `None` where there are more than 64 or one lies outside 32 to
+    /// 126.
     pub fn new(bytes: &[u8]) -> Option<Text>
         ensures valid { IsSome result ↔ IsText bytes.now }
         ensures value { IfSome result (λ text. text ≡ bytes.now) }

@@ -9,7 +9,7 @@ use Rattle.region.specs.declared.span.Span.{Span}
 use Rattle.region.specs.Spans.{in_spans}
 use Rattle.frame.specs.Pictures.{Picture, HasShape, colour_at, changed, picture_of}
 use Rattle.frame.specs.Areas.{is_at}
-use Rattle.frame.proofs.PictureLaws.{equal_by_points, colour_at-picture_of, has_shape-picture_of, colour_at-changed, has_shape-changed, changed-from_points, changed-same, changed-changed}
+use Rattle.frame.proofs.CallerLemmas.{equal_by_points, colour_at-picture_of, has_shape-picture_of, colour_at-changed, has_shape-changed, changed-from_points, changed-same, changed-changed}
 use Rattle.paint_ops.specs.Rows.{row_drawn}
 
 -- the picture whose point at x and y has the colour that a function gives for its place and for the colour that it had

@@ -1,5 +1,6 @@
-pub mod SpotLemmas
-pub mod PlaceLemmas
-pub mod PaintLemmas
-pub mod DotLemmas
-pub mod PainterLemmas
+mod SpotLemmas
+mod PlaceLemmas
+mod DotLemmas
+mod PainterLemmas
+mod PathLemmas
+pub mod CallerLemmas

@@ -10,7 +10,7 @@ use Rattle.gfx_base.specs.declared.point.Point.{Point}
 use Rattle.gfx_base.specs.declared.rect.Rect.{Rect}
 use Rattle.gfx_base.specs.Range.{is_within}
 use Rattle.gfx_base.specs.Rects.{has, meet, point_at}
-use Rattle.gfx_base.proofs.RectLemmas.{has-meet}
+use Rattle.gfx_base.proofs.CallerLemmas.{has-meet}
 use Rattle.paint_ops.specs.declared.op.Op.{Op}
 use Rattle.paint_ops.specs.Kinds.{Class, Assets}
 use Rattle.scene.specs.Looks.{class_of, inputs_of, back_of, colour_in_window, looks_of}
@@ -181,23 +181,6 @@ window_painted p q new assets w class corner x y shape is back drawn =
     (λ old. over_back assets w (colour_of_operations assets (inputs_of w) (class_of assets w).ops (seen_from corner (point_at (pos x) (pos y)))) old)
 
 -- ---- all windows on a point of a picture
-
--- what stands for a window where there is none
-abbrev pub no_window : Win
-no_window = record {
-  handle = 0;
-  parent = 0;
-  x = pos 0;
-  y = pos 0;
-  w = 0;
-  h = 0;
-  shown = false;
-  class = 0;
-  trans = false;
-  memdev = false;
-  values = [];
-  invalid = None;
-}
 
 -- the colour that these windows leave at a point of the screen, over black
 abbrev pub painted_first : Looks → List Win → ℕ → ℕ → ℕ → ℕ

@@ -7,7 +7,7 @@ use Rattle.std.proofs.lemmas.Simd.{map-map}
 use Rattle.gfx_base.specs.declared.point.Point.{Point}
 use Rattle.gfx_base.specs.declared.rect.Rect.{Rect}
 use Rattle.gfx_base.specs.Rects.{no_points, has, meet}
-use Rattle.gfx_base.proofs.RectLemmas.{has-meet, has-no_points}
+use Rattle.gfx_base.proofs.CallerLemmas.{has-meet, has-no_points}
 use Rattle.scene.specs.declared.win.Win.{Win}
 use Rattle.scene.specs.Places.{Place, place_of, place_at, parent_in}
 use Rattle.scene.specs.Clips.{deepest_level, corner_of, frame_of, clip_of, outer_clip, clip_in}

@@ -3,3 +3,4 @@ pub mod Clips
 pub mod Painting
 pub mod Damage
 pub mod Looks
+pub mod Paths

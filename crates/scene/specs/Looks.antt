@@ -12,7 +12,8 @@ use Rattle.scene.specs.Painting.{Looks, painted}
 
 -- the points of a screen of these sides
 abbrev pub screen_with : ℕ → ℕ → Rect
-screen_with width height = record { x0 = pos 0; y0 = pos 0; x1 = pos width -ℤ pos 1; y1 = pos height -ℤ pos 1 }
+screen_with width height =
+    record { x0 = pos 0; y0 = pos 0; x1 = pos width -ℤ pos 1; y1 = pos height -ℤ pos 1 }
 
 abbrev pub no_class : Class
 no_class = record { back = None; ops = []; reactions = [] }
@@ -24,7 +25,8 @@ class_of assets w = slice_index_or assets.classes w.class no_class
 abbrev pub inputs_of : Win → Inputs
 inputs_of w = record { values = w.values; width = w.w; height = w.h }
 
--- whether nothing behind the window can be seen through it: it isn't transparent, and its class has a back colour
+-- whether nothing behind the window can be seen through it: it isn't transparent, and its class has
+-- a back colour
 abbrev pub is_opaque : Assets → Win → Bool
 is_opaque assets w = not w.trans && is_some (class_of assets w).back
 
@@ -32,21 +34,28 @@ is_opaque assets w = not w.trans && is_some (class_of assets w).back
 abbrev pub back_of : Assets → Win → Option ℕ
 back_of assets w = if is_opaque assets w then (class_of assets w).back else None
 
--- the colour that a window puts on a point of its own, if any: that of the last of its operations that puts one there, else its back colour
+-- the colour that a window puts on a point of its own, if any: that of the last of its operations
+-- that puts one there, else its back colour
 abbrev pub colour_in_window : Assets → Win → Point → Option ℕ
-colour_in_window assets w local = or_behind (back_of assets w) (colour_of_operations assets (inputs_of w) (class_of assets w).ops local)
+colour_in_window assets w local =
+    or_behind (back_of assets w)
+    (colour_of_operations assets (inputs_of w) (class_of assets w).ops local)
 
 -- the colour that one of the windows leaves at a point of the screen over the colour behind it
 abbrev pub paint : Assets → List Win → Win → Point → ℕ → ℕ
-paint assets ws w p behind = unwrap_or (colour_in_window assets w (seen_from (corner_in ws w) p)) behind
+paint assets ws w p behind =
+    unwrap_or (colour_in_window assets w (seen_from (corner_in ws w) p)) behind
 
 -- how the windows of a list look on this screen
 abbrev pub looks_of : Assets → Rect → List Win → Looks
-looks_of assets screen ws = record { clip = clip_in screen ws; is_opaque = is_opaque assets; paint = paint assets ws }
+looks_of assets screen ws =
+    record { clip = clip_in screen ws; is_opaque = is_opaque assets; paint = paint assets ws }
 
 -- the painter's picture of windows on a screen of these sides
 abbrev pub painter : Assets → ℕ → ℕ → List Win → Picture
-painter assets width height ws = picture_of width height (λ x y. painted (looks_of assets (screen_with width height) ws) ws (point_at (pos x) (pos y)))
+painter assets width height ws =
+    picture_of width height
+    (λ x y. painted (looks_of assets (screen_with width height) ws) ws (point_at (pos x) (pos y)))
 
 -- the window's sides are at most 4,096 points long, and its class exists
 pub record IsPaintable (assets : Assets) (w : Win) : Type 0 where

@@ -1,4 +1,5 @@
--- What is to be seen at a point of the screen. A scene is the list of its windows, from back to front.
+-- What is to be seen at a point of the screen. A scene is the list of its windows, from back to
+-- front.
 use Rattle.std.specs.Prelude.{ℕ, Bool, if◌then◌else◌, List, [], ◌∷◌, filter}
 use Rattle.std.specs.List.{list_any}
 use Rattle.gfx_base.specs.declared.point.Point.{Point}
@@ -23,7 +24,8 @@ windows_at looks ws p = filter (λ w. has (looks.clip w) p) ws
 abbrev pub hides_behind : Looks → List Win → Bool
 hides_behind looks ws = list_any looks.is_opaque ws
 
--- of the windows at a point those that no later one hides: from the last opaque one on, or all where none is opaque
+-- of the windows at a point those that no later one hides: from the last opaque one on, or all
+-- where none is opaque
 abbrev pub visible : Looks → List Win → List Win
 visible looks [] = []
 visible looks (w ∷ ws) = if hides_behind looks ws then visible looks ws else w ∷ ws

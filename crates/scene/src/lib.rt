@@ -1,15 +1,12 @@
 //! Windows in their stacking order, and where each of them lies on the screen.
 #![tactic(auto)]
 
+mod clips;
 mod painter;
 mod place;
 mod win;
 
+pub use clips::put_clips;
 pub use painter::paint_whole;
-pub use place::{ground, origin};
-pub use win::{Stack, Win};
-
-#[cfg(test)]
-mod painter_tests;
-#[cfg(test)]
-mod tests;
+pub use place::{ground, origin, screen};
+pub use win::{MOST_WINDOWS, Stack, Win};

@@ -12,35 +12,22 @@ ghost use Rattle.scene.specs.Clips.{AreClips};
 ghost use Rattle.scene.specs.Painting.{painted};
 ghost use Rattle.scene.specs.Looks.{IsPaintable, screen_with, inputs_of, colour_in_window, looks_of, painter};
 
-use crate::place::{NOWHERE, ground, origin};
-use crate::win::Win;
+use crate::place::{ground, origin, screen};
+use crate::win::{MOST_WINDOWS, Win};
 use frame::Frame;
-use gfx_base::{Colour, Point, Rect};
+use gfx_base::{Colour, NO_POINTS, Point, Rect};
 use paint_ops::{Assets, Class, Op, draw};
 use region::Span;
 
-/// The greatest number of windows, the desktop among them.
-const MOST_WINDOWS: usize = 256;
-
 /// The clip rectangle of each window, in its place in the list.
-type Clips = [Rect; MOST_WINDOWS];
+type ClipsByPlace = [Rect; MOST_WINDOWS];
 
-fn screen(width: u16, height: u16) -> Rect
-    ensures { result ≡ screen_with width height }
-{
-    Rect {
-        x0: 0,
-        y0: 0,
-        x1: i32::from(width) - 1,
-        y1: i32::from(height) - 1,
-    }
-}
-
-fn clips(stack: &[Win], screen: &Rect) -> Clips
+/// Asks each window by itself, so that this holds of windows in any order.
+fn clips_by_place(stack: &[Win], screen: &Rect) -> ClipsByPlace
     requires { length stack.now ≤ 256 }
     ensures { AreClips screen.now stack.now result }
 {
-    let mut clips = [NOWHERE; MOST_WINDOWS];
+    let mut clips = [NO_POINTS; MOST_WINDOWS];
     for i in 0..stack.len() {
         clips[i] = ground(stack, i, screen);
     }
@@ -62,7 +49,11 @@ fn draw_dot(op: &Op, window: &Win, corner: Point, dot: Dot, assets: &Assets, tar
     requires corner { IsOrigin corner.x × IsOrigin corner.y }
     requires shape { HasShape target.old.picture }
     requires inside { (dot.x < target.old.picture.width) × (dot.y < target.old.picture.height) }
-    ensures { target.new.picture ≡ changed target.old.picture (is_at dot.x dot.y) (λ x y. unwrap_or (colour_of_operation assets.now (inputs_of window.now) op.now (seen_from corner (point_at (pos x) (pos y)))) (colour_at target.old.picture x y)) }
+    ensures { target.new.picture
+        ≡ changed target.old.picture (is_at dot.x dot.y)
+        (λ x y. unwrap_or
+        (colour_of_operation assets.now (inputs_of window.now) op.now
+        (seen_from corner (point_at (pos x) (pos y)))) (colour_at target.old.picture x y)) }
 {
     let x = i32::from(dot.x);
     let span = [Span { x0: x, x1: x }];
@@ -94,18 +85,26 @@ fn draw_class(
     requires corner { IsOrigin corner.x × IsOrigin corner.y }
     requires shape { HasShape target.old.picture }
     requires inside { (dot.x < target.old.picture.width) × (dot.y < target.old.picture.height) }
-    ensures { target.new.picture ≡ changed target.old.picture (is_at dot.x dot.y) (λ x y. unwrap_or (colour_of_operations assets.now (inputs_of window.now) class.now.ops (seen_from corner (point_at (pos x) (pos y)))) (colour_at target.old.picture x y)) }
+    ensures { target.new.picture
+        ≡ changed target.old.picture (is_at dot.x dot.y)
+        (λ x y. unwrap_or
+        (colour_of_operations assets.now (inputs_of window.now) class.now.ops
+        (seen_from corner (point_at (pos x) (pos y)))) (colour_at target.old.picture x y)) }
 {
     for op in &class.ops {
         draw_dot(op, window, corner, dot, assets, target);
     }
 }
 
-/// Gives one point a window's back colour, where its class has one and the window isn't transparent.
+/// Gives one point a window's back colour, where its class has one and the window isn't
+/// transparent.
 fn put_back(class: &Class, window: &Win, dot: Dot, target: &mut Frame)
     requires shape { HasShape target.old.picture }
     requires inside { (dot.x < target.old.picture.width) × (dot.y < target.old.picture.height) }
-    ensures { target.new.picture ≡ changed target.old.picture (is_at dot.x dot.y) (λ x y. unwrap_or (if window.now.trans then None else class.now.back) (colour_at target.old.picture x y)) }
+    ensures { target.new.picture
+        ≡ changed target.old.picture (is_at dot.x dot.y)
+        (λ x y. unwrap_or (if window.now.trans then None else class.now.back)
+        (colour_at target.old.picture x y)) }
 {
     if window.trans {
         return;
@@ -122,7 +121,11 @@ fn paint_window(window: &Win, corner: Point, dot: Dot, assets: &Assets, target: 
     requires corner { IsOrigin corner.x × IsOrigin corner.y }
     requires shape { HasShape target.old.picture }
     requires inside { (dot.x < target.old.picture.width) × (dot.y < target.old.picture.height) }
-    ensures { target.new.picture ≡ changed target.old.picture (is_at dot.x dot.y) (λ x y. unwrap_or (colour_in_window assets.now window.now (seen_from corner (point_at (pos x) (pos y)))) (colour_at target.old.picture x y)) }
+    ensures { target.new.picture
+        ≡ changed target.old.picture (is_at dot.x dot.y)
+        (λ x y. unwrap_or
+        (colour_in_window assets.now window.now (seen_from corner (point_at (pos x) (pos y))))
+        (colour_at target.old.picture x y)) }
 {
     let class = &assets.classes[usize::from(window.class)];
     put_back(class, window, dot, target);
@@ -132,7 +135,7 @@ fn paint_window(window: &Win, corner: Point, dot: Dot, assets: &Assets, target: 
 /// Gives one point the painter's colour: over black each window there paints, from back to front.
 fn paint_dot(
     stack: &[Win],
-    clips: &Clips,
+    clips: &ClipsByPlace,
     screen: &Rect,
     dot: Dot,
     assets: &Assets,
@@ -145,7 +148,10 @@ fn paint_dot(
     requires clips { AreClips screen.now stack.now clips.now }
     requires shape { HasShape target.old.picture }
     requires inside { (dot.x < target.old.picture.width) × (dot.y < target.old.picture.height) }
-    ensures { target.new.picture ≡ changed target.old.picture (is_at dot.x dot.y) (λ x y. painted (looks_of assets.now screen.now stack.now) stack.now (point_at (pos x) (pos y))) }
+    ensures { target.new.picture
+        ≡ changed target.old.picture (is_at dot.x dot.y)
+        (λ x y. painted (looks_of assets.now screen.now stack.now) stack.now
+        (point_at (pos x) (pos y))) }
 {
     target.put(dot.x, dot.y, Colour::default());
     let p = Point {
@@ -159,17 +165,19 @@ fn paint_dot(
     }
 }
 
-/// Gives the target the painter's picture of the windows, by asking each point: over black each window whose clip has it
-/// paints there, from back to front. The screen has the target's sides. There are at most 256 windows, each with sides of at
-/// most 4,096 points and with a class that exists.
+/// Gives the target the painter's picture of the windows, by asking each point: over black each
+/// window whose clip has it paints there, from back to front. The screen has the target's sides.
+/// There are at most 256 windows, each with sides of at most 4,096 points and with a class that
+/// exists.
 pub fn paint_whole(stack: &[Win], assets: &Assets, target: &mut Frame)
     requires assets { IsSound assets.now }
     requires few { length stack.now ≤ 256 }
     requires windows { AllByRecursion (IsPaintable assets.now) stack.now }
-    ensures { target.new.picture ≡ painter assets.now target.old.picture.width target.old.picture.height stack.now }
+    ensures { target.new.picture
+        ≡ painter assets.now target.old.picture.width target.old.picture.height stack.now }
 {
     let screen = screen(target.width(), target.height());
-    let clips = clips(stack, &screen);
+    let clips = clips_by_place(stack, &screen);
     for y in 0..target.height() {
         for x in 0..target.width() {
             paint_dot(stack, &clips, &screen, Dot { x, y }, assets, target);

@@ -4,36 +4,38 @@ ghost use Rattle.std.specs.Prelude.{◌≡◌, ◌+◌, ◌<◌, ◌≤◌, ◌=
 ghost use Rattle.gfx_base.specs.Rects.{point_at};
 ghost use Rattle.scene.specs.declared.win.Win.{Win};
 ghost use Rattle.scene.specs.Places.{place_of, window_of, place_at, parent_in};
+ghost use Rattle.scene.specs.Looks.{screen_with};
 ghost use Rattle.scene.specs.Clips.{deepest_level, FitsLevels, corner_from, corner_of, corner_in};
 ghost use Rattle.scene.specs.Clips.{frame_of, clip_from, outer_clip, clip_of, clip_in};
 
 use crate::win::Win;
-use gfx_base::{Point, Rect};
+use gfx_base::{NO_POINTS, Point, Rect};
 
-/// The deepest level of a window: the desktop has level 1, and a child the level after its parent's.
-const LEVELS: u8 = 8;
-
-/// A rectangle without points.
-pub const NOWHERE: Rect = Rect {
-    x0: 0,
-    y0: 0,
-    x1: -1,
-    y1: -1,
-};
+/// The deepest level of a window: the desktop has level 1, and a child the level after its
+/// parent's.
+pub(crate) const LEVELS: u8 = 8;
 
 /// The screen's upper left corner.
 const TOP_LEFT: Point = Point { x: 0, y: 0 };
 
-/// Where a window's upper left corner is on the screen, and the part of the screen that it may paint.
+/// Where a window's upper left corner is on the screen, and the part of the screen that it may
+/// paint.
 #[derive(Clone, Copy)]
-struct Spot {
-    corner: Point,
-    clip: Rect,
+pub(crate) struct Spot {
+    pub(crate) corner: Point,
+    pub(crate) clip: Rect,
 }
+
+/// Nowhere on the screen.
+pub(crate) const NOWHERE: Spot = Spot {
+    corner: TOP_LEFT,
+    clip: NO_POINTS,
+};
 
 /// The window in which another lies, if it is found; the desktop lies in none.
 fn parent_of<'s>(stack: &'s [Win], w: &Win) -> Option<&'s Win>
-    ensures { option_map (λ parent. place_of parent.now) result ≡ parent_in (place_at stack.now) (place_of w.now) }
+    ensures { option_map (λ parent. place_of parent.now) result
+        ≡ parent_in (place_at stack.now) (place_of w.now) }
 {
     if w.parent == 0 {
         return None;
@@ -81,15 +83,16 @@ fn clip_within(outer: &Rect, corner: Point, w: &Win) -> Rect
     if w.shown {
         frame(corner, w).meet(outer)
     } else {
-        NOWHERE
+        NO_POINTS
     }
 }
 
 /// Where a window lies, from where its parent lies.
-fn spot_within(outer: &Spot, w: &Win) -> Spot
+pub(crate) fn spot_within(outer: &Spot, w: &Win) -> Spot
     requires { FitsLevels 7 outer.now.corner }
     ensures corner { result.corner ≡ corner_from (place_of w.now) outer.now.corner }
-    ensures fits { (levels : ℕ) → FitsLevels levels outer.now.corner → FitsLevels (levels + 1) result.corner }
+    ensures fits { (levels : ℕ) → FitsLevels levels outer.now.corner
+        → FitsLevels (levels + 1) result.corner }
     ensures clip { result.clip ≡ clip_from (place_of w.now) result.corner outer.now.clip }
 {
     let corner = corner_within(outer.corner, w);
@@ -99,29 +102,28 @@ fn spot_within(outer: &Spot, w: &Win) -> Spot
     }
 }
 
-/// What a window without a parent lies in: the screen for the desktop, and nothing where the parent isn't found.
-fn outermost(w: &Win, screen: &Rect) -> Spot
+/// What a window without a parent lies in: the screen for the desktop, and nothing where the parent
+/// isn't found.
+pub(crate) fn outermost(w: &Win, screen: &Rect) -> Spot
     ensures corner { result.corner ≡ point_at (pos 0) (pos 0) }
     ensures clip { result.clip ≡ outer_clip screen.now (w.now.parent == 0) None }
 {
     Spot {
         corner: TOP_LEFT,
-        clip: if w.parent == 0 { *screen } else { NOWHERE },
+        clip: if w.parent == 0 { *screen } else { NO_POINTS },
     }
 }
 
-/// Where a window lies, if it and its ancestors up to the desktop are at most `levels` windows. Else its clip is empty.
-fn spot_of(stack: &[Win], w: &Win, screen: &Rect, levels: u8) -> Spot
+/// Where a window lies, if it and its ancestors up to the desktop are at most `levels` windows.
+/// Else its clip is empty.
+pub(crate) fn spot_of(stack: &[Win], w: &Win, screen: &Rect, levels: u8) -> Spot
     requires { levels ≤ deepest_level }
     ensures corner { result.corner ≡ corner_of levels (place_at stack.now) (place_of w.now) }
     ensures fits { FitsLevels levels result.corner }
     ensures clip { result.clip ≡ clip_of levels screen.now (place_at stack.now) (place_of w.now) }
 {
     if levels == 0 {
-        return Spot {
-            corner: TOP_LEFT,
-            clip: NOWHERE,
-        };
+        return NOWHERE;
     }
     match parent_of(stack, w) {
         Some(parent) => spot_within(&spot_of(stack, parent, screen, levels - 1), w),
@@ -129,17 +131,29 @@ fn spot_of(stack: &[Win], w: &Win, screen: &Rect, levels: u8) -> Spot
     }
 }
 
-/// Where on the screen the upper left corner of the window at `i` lies: the sum of its own place and those of its ancestors.
-/// Windows nest at most eight levels deep.
+/// All points of a screen of these sides.
+pub fn screen(width: u16, height: u16) -> Rect
+    ensures { result ≡ screen_with width height }
+{
+    Rect {
+        x0: 0,
+        y0: 0,
+        x1: i32::from(width) - 1,
+        y1: i32::from(height) - 1,
+    }
+}
+
+/// Where on the screen the upper left corner of the window at `i` lies: the sum of its own place
+/// and those of its ancestors. Windows nest at most eight levels deep.
 pub fn origin(stack: &[Win], i: usize) -> Point
     requires { i < length stack.now }
     ensures { (w : Win) → slice_get stack.now i ≡ Some w → result ≡ corner_in stack.now w }
 {
-    spot_of(stack, &stack[i], &NOWHERE, LEVELS).corner
+    spot_of(stack, &stack[i], &NO_POINTS, LEVELS).corner
 }
 
-/// The clip rectangle of the window at `i`: the points common to it, its ancestors and the screen, and none where it or an
-/// ancestor is hidden.
+/// The clip rectangle of the window at `i`: the points common to it, its ancestors and the screen,
+/// and none where it or an ancestor is hidden.
 pub fn ground(stack: &[Win], i: usize, screen: &Rect) -> Rect
     requires { i < length stack.now }
     ensures { (w : Win) → slice_get stack.now i ≡ Some w → result ≡ clip_in screen.now stack.now w }

@@ -4,7 +4,8 @@ use gfx_base::Rect;
 /// A window.
 #[derive(Clone, Copy, Debug, Default, PartialEq, Eq)]
 pub struct Win {
-    /// The number that names the window, and no other as long as the program runs; 1 for the desktop.
+    /// The number that names the window, and no other as long as the program runs; 1 for the
+    /// desktop.
     pub handle: u32,
     /// The handle of the window that it lies in; 0 for the desktop.
     pub parent: u32,
@@ -20,8 +21,8 @@ pub struct Win {
     pub shown: bool,
     /// The number of its class, which says what it paints.
     pub class: u8,
-    /// Whether it paints no back colour, so that what lies behind it can be seen through it. The same goes for every window
-    /// of a class without a back colour.
+    /// Whether it paints no back colour, so that what lies behind it can be seen through it. The
+    /// same goes for every window of a class without a back colour.
     pub trans: bool,
     /// Whether it is painted by way of a memory device.
     pub memdev: bool,
@@ -31,6 +32,9 @@ pub struct Win {
     pub invalid: Option<Rect>,
 }
 
-/// Windows from back to front: the desktop first, and each window before its children, which stand from bottom to top,
-/// each with its own descendants.
-pub type Stack = ArrayVec<Win, 256>;
+/// The greatest number of windows, the desktop among them.
+pub const MOST_WINDOWS: usize = 256;
+
+/// Windows from back to front: the desktop first, and each window before its children, which stand
+/// from bottom to top, each with its own descendants.
+pub type Stack = ArrayVec<Win, MOST_WINDOWS>;

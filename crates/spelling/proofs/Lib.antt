@@ -1,3 +1,4 @@
-pub mod Parts
-pub mod Numbers
-pub mod Spellings
+pub mod CallerLemmas
+mod CutLemmas
+mod NumberSpellings
+mod SpellingLaws

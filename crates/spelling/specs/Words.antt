@@ -51,7 +51,9 @@ is_i16 (negsuc n) = nat_lt n 32768
 
 -- the number whose spelling the word is
 unfoldable pub number_of : List ℕ → Option ℤ
-number_of word = let z = signed_digits_value 10 word in if bytes_eq (signed_decimal z) word && is_i16 z then Some z else None
+number_of word =
+    let z = signed_digits_value 10 word in
+    if bytes_eq (signed_decimal z) word && is_i16 z then Some z else None
 
 -- the number that the first word spells, and the words after it
 unfoldable pub number_at : List (List ℕ) → Option (ℤ × List (List ℕ))
@@ -62,7 +64,9 @@ number_at words = do
 
 -- the same without negative ones
 unfoldable pub natural_of : List ℕ → Option ℕ
-natural_of word = let n = digits_value 10 word in if bytes_eq (decimal n) word && nat_lt n (2 ^ 32) then Some n else None
+natural_of word =
+    let n = digits_value 10 word in
+    if bytes_eq (decimal n) word && nat_lt n (2 ^ 32) then Some n else None
 
 -- the same in a range
 unfoldable pub natural_in : ℕ → ℕ → List ℕ → Option ℕ
@@ -79,7 +83,9 @@ natural_at low high words = do
 
 -- the number of a digit `0` to `9` or `A` to `F`
 unfoldable pub hex_digit_of : ℕ → Option ℕ
-hex_digit_of b = if nat_le 48 b && nat_le b 57 then Some (b - 48) else if nat_le 65 b && nat_le b 70 then Some (b - 55) else None
+hex_digit_of b =
+    if nat_le 48 b && nat_le b 57 then Some (b - 48)
+    else if nat_le 65 b && nat_le b 70 then Some (b - 55) else None
 
 -- the byte of two digits
 unfoldable pub hex_byte_of : ℕ → ℕ → Option ℕ

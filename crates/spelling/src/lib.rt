@@ -1,17 +1,16 @@
-//! Texts as lines and words, and the numbers and colours that words spell. Each value has one spelling: a number is its
-//! decimal digits without a leading zero, with `-` before a negative one, and a colour is six digits `0` to `9` and `A` to
-//! `F`. Lines end with the byte 10, and single spaces part words.
+//! Texts as lines and words, and the numbers and colours that words spell. Each value has one
+//! spelling: a number is its decimal digits without a leading zero, with `-` before a negative one,
+//! and a colour is six digits `0` to `9` and `A` to `F`. Lines end with the byte 10, and single
+//! spaces part words.
 #![tactic(auto)]
 
 mod hex;
-mod laws;
+pub mod laws;
 mod lines;
 mod words;
 
 pub use hex::colour;
-pub use laws::one_spelling;
-pub use lines::{cut_at, first_line};
-pub use words::{after_word, begins_with, is_done, natural_at, natural_in, number_at, word_at};
-
-#[cfg(test)]
-mod tests;
+pub use lines::{cut_at, first_line, is_printable};
+pub use words::{
+    after_word, begins_with, is_done, natural, natural_at, natural_in, number_at, word_at,
+};

@@ -1,9 +1,10 @@
-//! Bytes cut at a mark.
+//! Texts: their bytes, and where marks cut them.
 
 ghost use Rattle.std.specs.Prelude.{◌≡◌, ◌<◌, ◌==◌, ◌∷◌, length, position, IfSome, IfNone};
-ghost use Rattle.spelling.specs.Parts.{parts, parts_left, lines_of};
+ghost use Rattle.spelling.specs.Parts.{parts, parts_left, lines_of, is_printable};
 
-fn place_of(mark: u8, text: &[u8]) -> Option<usize>
+/// Where the first mark stands.
+fn position_of(mark: u8, text: &[u8]) -> Option<usize>
     ensures { result ≡ position (λ b. b == mark) text.now }
 {
     text.iter().position(|b| *b == mark)
@@ -15,7 +16,7 @@ pub fn cut_at(mark: u8, text: &[u8]) -> (&[u8], Option<&[u8]>)
     ensures whole { IfNone result.1 (result.0.now ≡ text.now) }
     ensures shorter { IfSome result.1 (λ rest. length rest.now < length text.now) }
 {
-    match place_of(mark, text) {
+    match position_of(mark, text) {
         None => (text, None),
         Some(end) => (&text[..end], Some(&text[end + 1..])),
     }
@@ -32,4 +33,11 @@ pub fn first_line(text: &[u8]) -> (&[u8], &[u8])
         None => (line, &[]),
         Some(rest) => (line, rest),
     }
+}
+
+/// Whether each byte is printable: from 32 to 126.
+pub fn is_printable(line: &[u8]) -> bool
+    ensures { result ≡ is_printable line.now }
+{
+    line.iter().all(|b| (32..=126).contains(b))
 }

@@ -61,8 +61,8 @@ pub fn number_at(rest: Option<&[u8]>) -> Option<(i16, Option<&[u8]>)>
     Some((number(word)?, rest))
 }
 
-/// As `number`, of numbers that aren't negative.
-fn natural(word: &[u8]) -> Option<u32>
+/// The number of 32 bits that a word spells.
+pub fn natural(word: &[u8]) -> Option<u32>
     ensures { result ≡ natural_of word.now }
 {
     let text = str::from_utf8(word).ok()?;

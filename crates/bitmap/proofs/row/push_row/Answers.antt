@@ -1,7 +1,7 @@
 use Rattle.std.proofs.Common.{◌≡◌, ◌+◌, ◌≤◌, ◌++◌, length, false, ap, ◌∙◌, rules}
 use Rattle.std.specs.Prelude.{vec_len, is_err}
 use Rattle.spelling.specs.Words.{words_of, left}
-use Rattle.spelling.proofs.Spellings.{word_takes}
+use Rattle.spelling.proofs.CallerLemmas.{word_takes}
 use Rattle.bitmap.specs.Texts.{points_of_run}
 use Rattle.bitmap.specs.Reading.{run_from, points_of, onto}
 use Rattle.bitmap.proofs.RowLaws.{word_on}

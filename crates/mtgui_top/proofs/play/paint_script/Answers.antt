@@ -1,15 +1,18 @@
-use Rattle.std.proofs.Common.{subst, ◌∙◌, rules}
-use Rattle.outside.specs.Faults.{Whole}
+use Rattle.std.proofs.Common.{ap, subst, rules}
+use Rattle.outside.specs.Logs.{Whole}
+use Rattle.script.specs.Scripts.{Script}
 use Rattle.mtgui_top.specs.Outcome.{WritesText}
 use Rattle.mtgui_top.proofs.PlayLemmas.{painted_text}
 use Rattle.mtgui_top.proofs.play.paint_script.Goals as goal
 
-pub returns-in_err-paint_after : goal.returns-in_err-paint_after
-returns-in_err-paint_after g c =
-    let text = painted_text c.args.script _ _ _ _ c.in_ok-engine.engine c.into_parts-width.ensures.width c.into_parts-width.ensures.height c.into_parts-width.ensures.classes (c.deref-2.ensures.value ∙ c.into_parts-width.ensures.lines) c.in_ok-engine.ensures in
-    subst (WritesText c.from_residual-in_err-paint_after.result (g.K.Sink.faults c.args.out.now) (g.K.Sink.faults c.paint_after.new.out) (g.K.Sink.written c.args.out.now) (g.K.Sink.written c.paint_after.new.out)) text (search rules)
+pub returns-in_err-write_frame : goal.returns-in_err-write_frame
+returns-in_err-write_frame g c =
+    let text = painted_text c.args.script c.script.inside.assets c.script.inside.config c.script.inside.lines.items c.deref.result.now c.in_ok-gui.gui c.make_window_calls.new.gui c.into_painted.result.picture
+    (ap (λ (s : Script). s.assets) c.script.view_is) (ap (λ (s : Script). s.config) c.script.view_is) (ap (λ (s : Script). s.lines) c.script.view_is) c.deref.ensures.value c.in_ok-gui.ensures c.make_window_calls.ensures.setup c.make_window_calls.ensures.state c.into_painted.ensures in
+    subst (WritesText c.from_residual-in_err-write_frame.result (g.K.Sink.log c.args.out.now) (g.K.Sink.log c.write_frame-2.new.out)) text (search rules)
 
 pub returns : goal.returns
 returns g c =
-    let text = painted_text c.args.script _ _ _ _ c.in_ok-engine.engine c.into_parts-width.ensures.width c.into_parts-width.ensures.height c.into_parts-width.ensures.classes (c.deref-2.ensures.value ∙ c.into_parts-width.ensures.lines) c.in_ok-engine.ensures in
-    subst (Whole (g.K.Sink.faults c.args.out.now) (g.K.Sink.faults c.paint_after.new.out) (g.K.Sink.written c.args.out.now) (g.K.Sink.written c.paint_after.new.out)) text c.in_ok-paint_after.ensures
+    let text = painted_text c.args.script c.script.inside.assets c.script.inside.config c.script.inside.lines.items c.deref.result.now c.in_ok-gui.gui c.make_window_calls.new.gui c.into_painted.result.picture
+    (ap (λ (s : Script). s.assets) c.script.view_is) (ap (λ (s : Script). s.config) c.script.view_is) (ap (λ (s : Script). s.lines) c.script.view_is) c.deref.ensures.value c.in_ok-gui.ensures c.make_window_calls.ensures.setup c.make_window_calls.ensures.state c.into_painted.ensures in
+    subst (Whole (g.K.Sink.log c.args.out.now) (g.K.Sink.log c.write_frame-2.new.out)) text c.in_ok-write_frame.ensures

@@ -1,16 +1,15 @@
-use Rattle.std.proofs.Common.{◌≡◌, ◌+◌, ◌≤◌, ◌++◌, drop}
-use Rattle.mtgui_top.specs.States.{state_after}
-use Rattle.mtgui_top.specs.Playing.{replies, refused_count, summary_of}
-use Rattle.mtgui_top.proofs.Writes.{Partly}
+use Rattle.std.proofs.Common.{◌≡◌, ◌+◌, ◌++◌, drop}
+use Rattle.mtgui_top.specs.Playing.{replies, refused_count, after_lines, summary_of}
+use Rattle.outside.proofs.CallerLemmas.{Partly}
 use Rattle.mtgui_top.proofs.play.perform.Given as goal
 
 abbrev pub invariant-loop-line : goal.invariant-loop-line
 invariant-loop-line g l = record {
-  setup : l.engine.setup ≡ l.fn.engine.setup;
-  few : l.refused ≤ l.line-index;
-  refused : l.refused + refused_count l.fn.engine.setup l.engine.state (drop l.line-index l.lines) ≡ refused_count l.fn.engine.setup l.fn.engine.state l.lines;
-  last : state_after l.fn.engine.setup l.engine.state (drop l.line-index l.lines) ≡ state_after l.fn.engine.setup l.fn.engine.state l.lines;
-  wrote : Partly (g.K.Sink.faults l.fn.out) (g.K.Sink.faults l.out) (g.K.Sink.written l.fn.out) (g.K.Sink.written l.out)
-      (replies l.fn.engine.setup l.engine.state (drop l.line-index l.lines) ++ summary_of l.fn.engine.setup l.fn.engine.state l.lines)
-      (replies l.fn.engine.setup l.fn.engine.state l.lines ++ summary_of l.fn.engine.setup l.fn.engine.state l.lines);
+  setup : l.gui.setup ≡ l.fn.gui.setup;
+  made : l.gui.made ≡ l.line-index;
+  refused : l.gui.refused + refused_count l.fn.gui.setup l.gui.state (drop l.line-index l.lines) ≡ refused_count l.fn.gui.setup l.fn.gui.state l.lines;
+  last : after_lines l.fn.gui.setup l.gui.state (drop l.line-index l.lines) ≡ after_lines l.fn.gui.setup l.fn.gui.state l.lines;
+  wrote : Partly (g.K.Sink.log l.fn.out) (g.K.Sink.log l.out)
+      (replies l.fn.gui.setup l.gui.state (drop l.line-index l.lines) ++ summary_of l.fn.gui.setup l.fn.gui.state l.lines)
+      (replies l.fn.gui.setup l.fn.gui.state l.lines ++ summary_of l.fn.gui.setup l.fn.gui.state l.lines);
 }

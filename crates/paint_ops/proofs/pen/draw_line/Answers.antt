@@ -2,7 +2,7 @@ use Rattle.std.proofs.Common.{◌<◌, refl, rules, w32, arith}
 use Rattle.std.proofs.lemmas.Int.{ints, to_z-of_z}
 use mir.Val.{SFits}
 use Rattle.gfx_base.specs.Range.{IsNear}
-use Rattle.gfx_base.proofs.RectLemmas.{same_rect}
+use Rattle.gfx_base.proofs.CallerLemmas.{same_rect}
 use Rattle.paint_ops.proofs.PaneLemmas.{column_is}
 use Rattle.paint_ops.proofs.PenLemmas.{inked, clip-ready}
 use Rattle.paint_ops.proofs.pen.draw_line.Goals as goal

@@ -4,7 +4,7 @@ use Rattle.std.proofs.lemmas.Option.{slice_get-get_or}
 use Rattle.gfx_base.specs.declared.point.Point.{Point}
 use Rattle.gfx_base.specs.declared.rect.Rect.{Rect}
 use Rattle.gfx_base.specs.Rects.{has, point_at}
-use Rattle.gfx_base.proofs.RectLemmas.{same_point}
+use Rattle.gfx_base.proofs.CallerLemmas.{same_point}
 use Rattle.frame.specs.Canvases.{Canvas}
 use Rattle.frame.specs.Pictures.{Picture, HasShape, changed}
 use Rattle.frame.specs.Areas.{is_at}
@@ -12,7 +12,8 @@ use Rattle.paint_ops.specs.Rows.{IsOrigin}
 use Rattle.scene.specs.declared.win.Win.{Win}
 use Rattle.scene.specs.Looks.{IsPaintable, looks_of}
 use Rattle.scene.proofs.DotLemmas.{has_shape-dotted}
-use Rattle.scene.proofs.PainterLemmas.{no_window, all-at, corner_near, painted_first, clip_at, windows-step, windows-skip, windows-end}
+use Rattle.scene.specs.Places.{no_window}
+use Rattle.scene.proofs.PainterLemmas.{all-at, corner_near, painted_first, clip_at, windows-step, windows-skip, windows-end}
 use Rattle.scene.proofs.painter.paint_dot.Goals as goal
 use Rattle.scene.proofs.painter.paint_dot.Goals.{then-has, else-has}
 

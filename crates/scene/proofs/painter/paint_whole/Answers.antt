@@ -3,7 +3,7 @@ use Rattle.gfx_base.specs.declared.rect.Rect.{Rect}
 use Rattle.gfx_base.specs.Rects.{point_at}
 use Rattle.frame.specs.Pictures.{Picture, HasShape, changed}
 use Rattle.frame.specs.Areas.{is_at}
-use Rattle.frame.proofs.PictureLaws.{has_shape-changed}
+use Rattle.frame.proofs.CallerLemmas.{has_shape-changed}
 use Rattle.paint_ops.specs.Kinds.{Assets}
 use Rattle.scene.specs.declared.win.Win.{Win}
 use Rattle.scene.specs.Painting.{painted}
@@ -39,7 +39,7 @@ paint_dot-requires c =
       windows = c.requires.windows;
       screen = subst (λ (q : Picture). c.screen-screen.result ≡ screen_with q.width q.height) (sym c.loop-x.invariant) screen;
       few = c.requires.few;
-      clips = c.clips-clips.ensures;
+      clips = c.clips_by_place-clips.ensures;
       shape = subst HasShape (sym c.loop-x.invariant) (has_shape-changed p (before c.loop-x.x c.loop-y.y) f c.width.ensures.shape);
       inside = subst (λ (q : Picture). (c.loop-x.x < q.width) × (c.loop-y.y < q.height)) (sym c.loop-x.invariant) (omega (arith, c.loop-x-test.true, wide), omega (arith, c.loop-y-test.true, c.height-y-end.ensures));
     }

@@ -1,6 +1,6 @@
 use Rattle.std.proofs.Common.{rules, w16, w32, SFits, arith}
 use Rattle.std.proofs.lemmas.Int.{ints}
-use Rattle.gfx_base.proofs.RectLemmas.{same_point}
+use Rattle.gfx_base.proofs.CallerLemmas.{same_point}
 use Rattle.scene.proofs.place.corner_within.Goals as goal
 
 pub returns : goal.returns

@@ -1,6 +1,6 @@
 use Rattle.std.proofs.Common.{rules, w16, w32, Fits, SFits, arith}
 use Rattle.std.proofs.lemmas.Int.{ints}
-use Rattle.gfx_base.proofs.RectLemmas.{same_rect}
+use Rattle.gfx_base.proofs.CallerLemmas.{same_rect}
 use Rattle.scene.proofs.place.frame.Goals as goal
 
 pub returns : goal.returns

@@ -1,8 +1,8 @@
 use Rattle.std.proofs.Common.{ap, ◌∙◌}
 use Rattle.std.proofs.lemmas.List.Splits.{join_with_byte-slice_split}
 use Rattle.spelling.specs.Words.{number_of, natural_in, colour_of}
-use Rattle.spelling.proofs.Numbers.{number_takes, number_again}
-use Rattle.spelling.proofs.Spellings.{natural_in_takes, natural_in_again, colour_takes, colour_again}
+use Rattle.spelling.proofs.NumberSpellings.{number_takes, number_again}
+use Rattle.spelling.proofs.SpellingLaws.{natural_in_takes, natural_in_again, colour_takes, colour_again}
 use Rattle.spelling.proofs.laws.one_spelling.Goals as goal
 
 pub returns-clause-words : goal.returns-clause-words

@@ -1,5 +1,5 @@
 use Rattle.std.proofs.Common.{sym, eqb}
-use Rattle.spelling.proofs.Parts.{parts_none, parts_some, to_end}
+use Rattle.spelling.proofs.CutLemmas.{parts_none, parts_some, to_end}
 use Rattle.spelling.proofs.lines.cut_at.Goals as goal
 
 pub returns-in-None-clause-parts : goal.returns-in-None-clause-parts

@@ -1,6 +1,6 @@
 use Rattle.std.proofs.Common.{◌∙◌, ◌∷◌, ap}
 use Rattle.spelling.specs.Parts.{parts_left}
-use Rattle.spelling.proofs.Parts.{first_of_more}
+use Rattle.spelling.proofs.CutLemmas.{first_of_more}
 use Rattle.spelling.proofs.lines.first_line.Goals as goal
 
 pub returns-in-Some-clause-lines : goal.returns-in-Some-clause-lines

@@ -1,7 +1,7 @@
 use Rattle.std.proofs.Common.{◌^◌, ◌<◌, sym, ◌∙◌, rules, arith}
 use Rattle.std.proofs.lemmas.Str.{IsUtf8-from_ascii}
 use Rattle.std.proofs.lemmas.Fmt.{IsAscii-decimal}
-use Rattle.spelling.proofs.Numbers.{natural_none, err_part, ok_part, natural_not_parsed, natural_written_same, natural_written_other}
+use Rattle.spelling.proofs.NumberSpellings.{natural_none, err_part, ok_part, natural_not_parsed, natural_written_same, natural_written_other}
 use Rattle.spelling.proofs.words.natural.Goals as goal
 
 pub returns-in_err-text : goal.returns-in_err-text

@@ -4,7 +4,7 @@ use Rattle.std.specs.Prelude.{FitsSigned}
 use Rattle.std.proofs.lemmas.Int.{to_z-of_z}
 use Rattle.std.proofs.lemmas.Str.{IsUtf8-from_ascii}
 use Rattle.std.proofs.lemmas.Fmt.{IsAscii-signed}
-use Rattle.spelling.proofs.Numbers.{number_none, err_part, ok_part, mag_small, not_parsed, written_same, written_other}
+use Rattle.spelling.proofs.NumberSpellings.{number_none, err_part, ok_part, mag_small, not_parsed, written_same, written_other}
 use Rattle.spelling.proofs.words.number.Goals as goal
 
 pub returns-in_err-text : goal.returns-in_err-text

@@ -1,6 +1,6 @@
 use Rattle.std.proofs.Common.{◌≡◌, arith, w32, to_z, ◌∙◌, ap}
 use Rattle.std.proofs.lemmas.Int.{ints}
-use Rattle.gfx_base.proofs.RectLemmas.{same_point}
+use Rattle.gfx_base.proofs.CallerLemmas.{same_point}
 use Rattle.line_ink.specs.Lines.{flipped}
 use Rattle.line_ink.specs.Courses.{across}
 use Rattle.line_ink.proofs.course.Course.point.Goals as goal

@@ -1,4 +1,4 @@
-use Rattle.gfx_base.proofs.RectLemmas.{same_point}
+use Rattle.gfx_base.proofs.CallerLemmas.{same_point}
 use Rattle.paint_ops.proofs.PaneLemmas.{sum_is, sum_near}
 use Rattle.paint_ops.proofs.pane.Pane.corner.Goals as goal
 

@@ -1,4 +1,4 @@
-use Rattle.gfx_base.proofs.RectLemmas.{same_rect}
+use Rattle.gfx_base.proofs.CallerLemmas.{same_rect}
 use Rattle.paint_ops.proofs.PaneLemmas.{sum_is}
 use Rattle.paint_ops.proofs.pane.Pane.rect.Goals as goal
 

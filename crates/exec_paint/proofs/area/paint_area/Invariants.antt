@@ -1,0 +1,18 @@
+use Rattle.std.proofs.Common.{◌≡◌, ◌+◌, pos, drop}
+use Rattle.gfx_base.specs.Rects.{point_at}
+use Rattle.frame.specs.Pictures.{Picture, changed}
+use Rattle.scene.specs.Looks.{looks_of, screen_with}
+use Rattle.scene.specs.Painting.{painted}
+use Rattle.exec_paint.specs.Areas.{is_open}
+use Rattle.gfx_base.specs.TileSets.{AreTilesOf}
+use Rattle.exec_paint.proofs.AreaLemmas.{to_row}
+use Rattle.exec_paint.proofs.area.paint_area.Given as goal
+
+abbrev pub invariant-loop-y : goal.invariant-loop-y
+invariant-loop-y l =
+    let p : Picture = l.fn.target.picture in
+    let looks = looks_of l.assets (screen_with p.width p.height) l.stack in
+    record {
+      picture : l.target.picture ≡ changed p (to_row (λ u v. is_open looks (drop (l.which + 1) l.stack) l.area (point_at (pos u) (pos v))) l.y) (λ u v. painted looks l.stack (point_at (pos u) (pos v)));
+      tiles : AreTilesOf p.width p.height (to_row (λ u v. is_open looks (drop (l.which + 1) l.stack) l.area (point_at (pos u) (pos v))) l.y) l.tiles;
+    }

@@ -1,0 +1,27 @@
+-- Areas of the screen that a job paints. No contract of a public function names these.
+use Rattle.std.specs.Prelude.{ℕ, Bool, ◌&&◌, not, pos, ◌≤ℤ◌, ◌<ℤ◌, List}
+use Rattle.gfx_base.specs.declared.point.Point.{Point}
+use Rattle.gfx_base.specs.declared.rect.Rect.{Rect}
+use Rattle.gfx_base.specs.Rects.{has, point_at}
+use Rattle.frame.specs.Pictures.{Picture, changed}
+use Rattle.scene.specs.declared.win.Win.{Win}
+use Rattle.scene.specs.Painting.{Looks, windows_at, hides_behind, painted}
+
+-- the area isn't empty, and lies on a screen of these sides
+pub record IsOn (width height : ℕ) (area : Rect) : Type 0 where
+  pub left : pos 0 ≤ℤ area.x0
+  pub right : area.x1 <ℤ pos width
+  pub top : pos 0 ≤ℤ area.y0
+  pub bottom : area.y1 <ℤ pos height
+  pub columns : area.x0 ≤ℤ area.x1
+  pub rows : area.y0 ≤ℤ area.y1
+
+-- whether the area has the point, and none of the windows above hides it there
+abbrev pub is_open : Looks → List Win → Rect → Point → Bool
+is_open looks above area p = has area p && not (hides_behind looks (windows_at looks above p))
+
+-- the picture with the painter's colours on those points
+abbrev pub painted_in : Looks → List Win → List Win → Rect → Picture → Picture
+painted_in looks ws above area p =
+    changed p (λ x y. is_open looks above area (point_at (pos x) (pos y)))
+    (λ x y. painted looks ws (point_at (pos x) (pos y)))

@@ -1,0 +1,18 @@
+-- What a job paints with. No contract of a public function names these.
+use Rattle.std.specs.Prelude.{◌≡◌, ℕ, Bool, List}
+use Rattle.std.specs.List.{list_any}
+use Rattle.gfx_base.specs.declared.point.Point.{Point}
+use Rattle.gfx_base.specs.Rects.{has}
+use Rattle.scene.specs.declared.win.Win.{Win}
+use Rattle.scene.specs.Painting.{Looks, windows_at, painted_over}
+use Rattle.exec_paint.specs.declared.plan.Hole.{Hole}
+
+-- whether one of the holes has the point
+abbrev pub is_hidden : List Hole → Point → Bool
+is_hidden holes p = list_any (λ (hole : Hole). has hole.clip p) holes
+
+-- at the point all windows leave what those that were taken and then the rest leave
+abbrev pub IsOpenTo : Looks → Point → ℕ → List Win → List Win → List Win → Type 0
+IsOpenTo looks p old all taken rest =
+    painted_over looks p (painted_over looks p old (windows_at looks taken p))
+    (windows_at looks rest p) ≡ painted_over looks p old (windows_at looks all p)

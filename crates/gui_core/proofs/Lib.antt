@@ -1,0 +1,9 @@
+mod AreaLemmas
+mod JobLemmas
+mod KeptLemmas
+mod CreateLemmas
+mod VisibleLemmas
+mod DamageLemmas
+mod SceneryLemmas
+mod CallLemmas
+pub mod CallerLemmas

@@ -1,0 +1,7 @@
+pub mod Setups
+pub mod Windows
+pub mod Jobs
+pub mod States
+pub mod Promises
+pub mod Areas
+pub mod Machines

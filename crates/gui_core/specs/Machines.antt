@@ -1,0 +1,76 @@
+-- The core as its callers see it: its state with what it was opened with.
+use Rattle.std.specs.Prelude.{◌≡◌, ℕ, ◌+◌, ◌<◌, ◌≤◌, if◌then◌else◌, length}
+use Rattle.std.specs.List.{AllByRecursion}
+use Rattle.paint_ops.specs.Kinds.{Assets}
+use Rattle.paint_ops.specs.Soundness.{IsSound}
+use Rattle.scene.specs.declared.win.Win.{Win}
+use Rattle.scene.specs.Places.{AreSingle}
+use Rattle.scene.specs.Looks.{IsPaintable}
+use Rattle.calls.specs.declared.config.Config.{Config}
+use Rattle.calls.specs.declared.call.Call.{Call}
+use Rattle.calls.specs.declared.entry.Entry.TheVariants as entry
+use Rattle.calls.specs.declared.reply.Reply.{Reply}
+use Rattle.gui_core.specs.Setups.{Setup, setup_for}
+use Rattle.gui_core.specs.States.{State, Step, opening, step_of_call, step, is_refused}
+
+-- what it was opened with, its state, how many calls were made, and how many of them were refused
+pub record Machine : Type 0 where
+  pub setup : Setup
+  pub state : State
+  pub made : ℕ
+  pub refused : ℕ
+
+-- before the first call
+abbrev pub starting : Assets → Config → Machine
+starting assets config =
+    let setup = setup_for assets config in
+    record { setup = setup; state = opening setup; made = 0; refused = 0 }
+
+-- the configuration is one that can be opened
+pub record IsConfig (config : Config) : Type 0 where
+  pub width : (1 ≤ config.w) × (config.w ≤ 1024)
+  pub height : (1 ≤ config.h) × (config.h ≤ 768)
+  pub buffers : config.buffers ≡ 1
+  pub calls : config.calls ≤ 400000
+
+-- a call took one step
+pub record Takes (old : Machine) (call : Call) (new : Machine) (reply : Reply) : Type 0 where
+  pub rest : new ≡ record old { state = new.state }
+  pub step : ◌≡◌ {A = Step} (record { state = new.state; reply = reply })
+      (step_of_call old.setup old.state call)
+
+-- one call more
+abbrev pub counted : Reply → Machine → Machine
+counted reply m = record m {
+  made = m.made + 1;
+  refused = m.refused + (if is_refused reply then 1 else 0);
+}
+
+-- a call took one step, and was counted
+pub record Answers (old : Machine) (actor : ℕ) (call : Call) (new : Machine)
+    (reply : Reply) : Type 0 where
+  pub setup : new.setup ≡ old.setup
+  pub step : ◌≡◌ {A = Step} (record { state = new.state; reply = reply })
+      (step old.setup old.state (entry.Call actor call))
+  pub made : new.made ≡ old.made + 1
+  pub refused : new.refused ≡ old.refused + (if is_refused reply then 1 else 0)
+
+-- a handle that was given out
+abbrev pub IsOld : ℕ → Win → Type 0
+IsOld next w = w.handle < next
+
+-- What is true of every core.
+pub record IsKept (m : Machine) (room : ℕ) : Type 0 where
+  pub config : IsConfig m.setup.config
+  pub assets : IsSound m.setup.assets
+  pub has_desktop : 1 ≤ length m.setup.assets.classes
+  pub width : m.state.shown.width ≡ m.setup.config.w
+  pub height : m.state.shown.height ≡ m.setup.config.h
+  pub few : length m.state.windows ≤ 256
+  pub next : m.state.next ≡ length m.state.windows + 1
+  pub old : AllByRecursion (IsOld m.state.next) m.state.windows
+  pub single : AreSingle m.state.windows
+  pub paintable : AllByRecursion (IsPaintable m.setup.assets) m.state.windows
+  pub clips_room : 256 ≤ room
+  pub made : m.made ≤ m.setup.config.calls
+  pub refused : m.refused ≤ m.made

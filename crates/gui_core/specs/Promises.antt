@@ -1,0 +1,36 @@
+-- What holds of the latest picture after any calls.
+use Rattle.std.specs.Prelude.{◌≡◌, ℕ, ◌<◌, Bool, true, false, pos, List, filter}
+use Rattle.std.specs.List.{list_any}
+use Rattle.gfx_base.specs.Rects.{point_at}
+use Rattle.frame.specs.Pictures.{colour_at}
+use Rattle.scene.specs.declared.win.Win.{Win}
+use Rattle.scene.specs.Painting.{painted}
+use Rattle.scene.specs.Damage.{is_damaged}
+use Rattle.calls.specs.declared.call.Call.TheVariants.{Create, Exec, Scan}
+use Rattle.calls.specs.declared.entry.Entry.{Entry}
+use Rattle.calls.specs.declared.entry.Entry.TheVariants as entry
+use Rattle.gui_core.specs.Setups.{Setup, looks_of}
+use Rattle.gui_core.specs.Jobs.{is_invalid}
+use Rattle.gui_core.specs.States.{State, latest}
+
+-- at each point of the screen outside the damage the latest picture is the painter's
+abbrev pub DamageCovers : Setup → State → Type 0
+DamageCovers setup s =
+    let looks = looks_of setup s.windows in
+    (x y : ℕ) → x < setup.config.w → y < setup.config.h
+    → is_damaged looks s.windows (point_at (pos x) (pos y)) ≡ false
+    → colour_at (latest s) x y ≡ painted looks s.windows (point_at (pos x) (pos y))
+
+-- no window waits to be painted
+abbrev pub NoneInvalid : List Win → Type 0
+NoneInvalid ws = list_any is_invalid ws ≡ false
+
+-- whether an entry may change where windows are, or what they are
+abbrev pub changes_windows : Entry → Bool
+changes_windows (entry.Call actor (Create x y w h class)) = true
+changes_windows (entry.Call actor Exec) = false
+changes_windows (entry.Call actor Scan) = false
+
+-- the entries that may
+abbrev pub window_calls : List Entry → List Entry
+window_calls es = filter changes_windows es

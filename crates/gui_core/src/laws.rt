@@ -1,0 +1,44 @@
+//! Laws of the definitions, each as the contract of a function that does nothing.
+
+ghost use Rattle.std.specs.Prelude.{◌≡◌, ℕ, List};
+ghost use Rattle.gfx_base.specs.declared.point.Point.{Point};
+ghost use Rattle.scene.specs.declared.win.Win.{Win};
+ghost use Rattle.scene.specs.Painting.{windows_at, visible, painted_over, painted};
+ghost use Rattle.calls.specs.declared.entry.Entry.{Entry};
+ghost use Rattle.calls.specs.declared.entry.Entry.TheVariants as entry;
+ghost use Rattle.gui_core.specs.Setups.{Setup, looks_of, painter};
+ghost use Rattle.gui_core.specs.States.{State, latest, opening, step, state_after};
+ghost use Rattle.gui_core.specs.Promises.{DamageCovers, NoneInvalid, window_calls};
+
+use calls::{Call, Refusal, Reply};
+
+/// Does nothing. After any calls the latest picture is the painter's outside the damage, and the
+/// whole painter's picture where no window waits to be painted.
+pub fn damage_covers_change()
+    ensures covers { (setup : Setup) (es : List Entry)
+        → DamageCovers setup (state_after setup (opening setup) es) }
+    ensures quiet { (setup : Setup) (es : List Entry)
+        → NoneInvalid (state_after setup (opening setup) es).windows
+        → latest (state_after setup (opening setup) es)
+        ≡ painter setup (state_after setup (opening setup) es).windows }
+    ensures exec { (setup : Setup) (s : State) (actor : ℕ)
+        → NoneInvalid (step setup s (entry.Call actor Call.Exec)).state.windows }
+    ensures visible { (setup : Setup) (ws : List Win) (p : Point)
+        → painted (looks_of setup ws) ws p
+        ≡ painted_over (looks_of setup ws) p 0
+        (visible (looks_of setup ws) (windows_at (looks_of setup ws) ws p)) }
+{}
+
+/// Does nothing. A refused call changes nothing.
+pub fn refusal_changes_nothing()
+    ensures { (setup : Setup) (s : State) (e : Entry) (refusal : Refusal)
+        → (step setup s e).reply ≡ Reply.Refused refusal → (step setup s e).state ≡ s }
+{}
+
+/// Does nothing. Painting changes nothing that the painter's picture looks at: the calls that may
+/// change windows leave the same picture to paint, with or without the others between them.
+pub fn painting_moves_nothing()
+    ensures { (setup : Setup) (es : List Entry)
+        → painter setup (state_after setup (opening setup) (window_calls es)).windows
+        ≡ painter setup (state_after setup (opening setup) es).windows }
+{}

@@ -1,0 +1,12 @@
+//! The core: the windows, the picture that is shown, and what each call does to them. All memory is
+//! taken at opening.
+#![tactic(auto)]
+
+mod areas;
+mod gui;
+mod jobs;
+pub mod laws;
+mod refusals;
+mod windows;
+
+pub use gui::Gui;

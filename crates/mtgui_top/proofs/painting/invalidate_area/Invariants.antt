@@ -1,7 +1,0 @@
-use Rattle.std.proofs.Common.{◌≡◌}
-use Rattle.mtgui_top.specs.Areas.{area_invalidated}
-use Rattle.mtgui_top.proofs.AreaLemmas.{partly_invalidated}
-use Rattle.mtgui_top.proofs.painting.invalidate_area.Given as goal
-
-abbrev pub invariant-loop-i : goal.invariant-loop-i
-invariant-loop-i l = partly_invalidated l.i l.area l.clips l.windows ≡ area_invalidated l.area l.clips l.fn.windows

@@ -1,0 +1,12 @@
+-- The lemmas on windows that proofs of other crates may cite.
+use Rattle.std.proofs.Common.{◌≡◌, ℕ, List, [], ◌∷◌, ◌++◌, refl}
+use Rattle.gfx_base.specs.declared.point.Point.{Point}
+use Rattle.scene.specs.declared.win.Win.{Win}
+use Rattle.scene.specs.Painting.{Looks, painted_over}
+pub use Rattle.scene.proofs.PlaceLemmas.{place_at-same, clips-same, has-clip_in}
+pub use Rattle.scene.proofs.PainterLemmas.{all-at, all-push, drawn_over, drawn_by, operations-more, over, windows-here, windows-away, corner_near}
+
+-- what windows leave and then others is what all leave
+pub painted_over-append : (looks : Looks) (p : Point) (behind : ℕ) (ws vs : List Win) → painted_over looks p behind (ws ++ vs) ≡ painted_over looks p (painted_over looks p behind ws) vs
+painted_over-append looks p behind [] vs = refl
+painted_over-append looks p behind (w ∷ ws) vs = painted_over-append looks p (looks.paint w p behind) ws vs

@@ -1,5 +1,0 @@
-use Rattle.std.proofs.Common.{arith}
-use Rattle.scene.proofs.painter_tests.bar.Goals as goal
-
-pub returns : goal.returns
-returns c = λ assets. (c.plain.ensures, c.plain-2.ensures, omega arith, c.plain-3.ensures)

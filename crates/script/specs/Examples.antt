@@ -1,0 +1,30 @@
+-- A small script, and the lines of its file.
+use Rattle.std.specs.Prelude.{ℕ, pos, List, [], ◌∷◌, codes}
+use Rattle.calls.specs.declared.call.Call.{Call}
+use Rattle.calls.specs.declared.call.Call.TheVariants.{Create, Exec}
+use Rattle.calls.specs.declared.line.Act.TheVariants as act
+use Rattle.calls.specs.declared.line.Line.{Line}
+use Rattle.calls.specs.declared.line.Line.TheVariants.{Task}
+use Rattle.script.specs.Scripts.{Listing}
+
+-- a call of task 1
+abbrev pub by_task_1 : Call → Line
+by_task_1 call = Task 1 (act.Call call)
+
+-- two windows are to be made, and painted
+abbrev pub small_listing : Listing
+small_listing = record {
+  width = 2;
+  height = 1;
+  classes = 0 ∷ 255 ∷ [];
+  lines =
+      by_task_1 (Create (pos 0) (pos 0) 0 1 1) ∷ by_task_1 (Create (pos 0) (pos 0) 1 1 7)
+      ∷ by_task_1 Exec ∷ [];
+}
+
+-- the lines of that script's file
+abbrev pub small_lines : List (List ℕ)
+small_lines =
+    codes "mtgui 1" ∷ codes "screen 2 1" ∷ codes "buffers 1" ∷ codes "desktop 000000" ∷
+    codes "class 1 0000FF" ∷ codes "end" ∷
+    codes "1 create 1 0 0 0 1 1" ∷ codes "1 create 1 0 0 1 1 7" ∷ codes "1 exec" ∷ []

@@ -1,0 +1,8 @@
+pub mod Comments
+pub mod Spelling
+pub mod Scripts
+pub mod Fields
+pub mod Later
+pub mod Faults
+pub mod Reading
+pub mod Examples

@@ -1,0 +1,187 @@
+-- Reading a file line by line: its script, or its first fault.
+use Rattle.std.specs.Prelude.{◌≡◌, ℕ, ◌+◌, ◌&&◌, ◌||◌, List, [], ◌∷◌, ◌++◌, length, Option, Some, None, is_some, Result, Ok, Err, nat_lt, nat_le, ◌==◌, if◌then◌else◌, bytes_eq, codes}
+use Rattle.calls.specs.declared.line.Line.{Line}
+use Rattle.script.specs.declared.draft.Stage.{Stage}
+use Rattle.script.specs.declared.draft.Stage.TheVariants as stage
+use Rattle.script.specs.declared.draft.Draft.{Draft as DraftOfProgram}
+use Rattle.script.specs.declared.fault.Reason.{Reason}
+use Rattle.script.specs.declared.fault.Reason.TheVariants.{TooLarge, Ascii, Later, Header, Block, Late, Asset, Call, Many, End}
+use Rattle.script.specs.declared.fault.ScriptFault.{ScriptFault}
+use Rattle.script.specs.declared.fault.LineError.{LineError}
+use Rattle.script.specs.declared.fault.LineError.TheVariants as line_error
+use Rattle.script.specs.declared.fault.ScriptRefused.{ScriptRefused}
+use Rattle.script.specs.declared.fault.ScriptRefused.TheVariants as read_error
+use Rattle.spelling.specs.Parts.{lines_of}
+use Rattle.spelling.specs.Parts.{is_printable}
+use Rattle.script.specs.Comments.{is_comment}
+use Rattle.spelling.specs.Words.{words_of, after_word, natural_in}
+use Rattle.script.specs.Fields.{screen_in, desktop_in, class_in, line_in}
+use Rattle.script.specs.Later.{is_one_of, begins_with_one_of, later_words, later_in_block, is_later_class, is_later_call}
+use Rattle.script.specs.Scripts.{Listing, Script, script_for}
+
+-- ---- reasons against a line
+
+-- against a line that isn't the header's line of its place
+abbrev pub header_reason : List ℕ → Reason
+header_reason line =
+    if bytes_eq line (codes "buffers 2") || bytes_eq line (codes "buffers 3") then Later else Header
+
+-- against a line that doesn't belong in a class's block
+abbrev pub block_reason : List (List ℕ) → Reason
+block_reason words = if begins_with_one_of later_in_block words then Later else Block
+
+-- against a line that opens no class and is no call
+abbrev pub call_reason : List (List ℕ) → Reason
+call_reason [] = Call
+call_reason (first ∷ words) =
+    if is_one_of later_words first
+    || (is_some (natural_in 1 16 first) && is_later_call words) then Later else Call
+
+-- ---- lines
+
+-- what the lines so far say, and which line comes next
+pub record Draft : Type 0 where
+  pub stage : Stage
+  pub width : ℕ
+  pub height : ℕ
+  pub classes : List ℕ
+  pub lines : List Line
+
+-- before the first line
+abbrev pub empty_draft : Draft
+empty_draft = record { stage = stage.Title; width = 0; height = 0; classes = []; lines = [] }
+
+-- the draft after what a line spells, or the reason against it
+abbrev pub after_value : {A : Type 0} → Option A → Reason → (A → Draft) → Result Draft Reason
+after_value None reason next = Err reason
+after_value (Some x) reason next = Ok (next x)
+
+-- after `mtgui 1`
+unfoldable pub after_title : Draft → List ℕ → Result Draft Reason
+after_title d line =
+    if bytes_eq line (codes "mtgui 1") then Ok (record d { stage = stage.Screen })
+    else Err (header_reason line)
+
+-- after `screen W H`
+unfoldable pub after_screen : Draft → List ℕ → Result Draft Reason
+after_screen d line =
+    after_value (screen_in (words_of line)) (header_reason line)
+    (λ sides. record d { stage = stage.Buffers; width = sides.0; height = sides.1 })
+
+-- after `buffers 1`
+unfoldable pub after_buffers : Draft → List ℕ → Result Draft Reason
+after_buffers d line =
+    if bytes_eq line (codes "buffers 1") then Ok (record d { stage = stage.Desktop })
+    else Err (header_reason line)
+
+-- after `desktop COLOUR`, whose colour is class 0's
+unfoldable pub after_desktop : Draft → List ℕ → Result Draft Reason
+after_desktop d line =
+    after_value (desktop_in (words_of line)) (header_reason line)
+    (λ colour. record d { stage = stage.Body; classes = d.classes ++ colour ∷ [] })
+
+-- after the end of a class's block
+unfoldable pub after_block : Draft → List ℕ → Result Draft Reason
+after_block d line =
+    if bytes_eq line (codes "end") then Ok (record d { stage = stage.Body })
+    else Err (block_reason (words_of line))
+
+-- after the line that opens the class of this number and colour
+abbrev pub after_opening : Draft → Option (ℕ × ℕ) → Result Draft Reason
+after_opening d None = Err Asset
+after_opening d (Some class) =
+    if class.0 == length d.classes
+    then Ok (record d { stage = stage.Block; classes = d.classes ++ class.1 ∷ [] }) else Err Asset
+
+-- after a line by its words after `class`
+unfoldable pub after_class : Draft → List (List ℕ) → Result Draft Reason
+after_class d words =
+    if is_later_class words then Err Later
+    else (if length d.lines == 0 then after_opening d (class_in words) else Err Late)
+
+-- after a line that is no call, by its words after `class` where it opens one
+abbrev pub after_other : Draft → List ℕ → Option (List (List ℕ)) → Result Draft Reason
+after_other d line None = Err (call_reason (words_of line))
+after_other d line (Some words) = after_class d words
+
+-- after a line by the call line that it spells
+abbrev pub after_call : Draft → List ℕ → Option Line → Result Draft Reason
+after_call d line None = after_other d line (after_word (codes "class") (words_of line))
+after_call d line (Some call) =
+    if nat_lt (length d.lines) 400000 then Ok (record d { lines = d.lines ++ call ∷ [] })
+    else Err Many
+
+-- after a call line or a class's first line
+unfoldable pub after_body : Draft → List ℕ → Result Draft Reason
+after_body d line = after_call d line (line_in (words_of line))
+
+-- after a line that is no comment
+abbrev pub after_words : Stage → Draft → List ℕ → Result Draft Reason
+after_words stage.Title = after_title
+after_words stage.Screen = after_screen
+after_words stage.Buffers = after_buffers
+after_words stage.Desktop = after_desktop
+after_words stage.Body = after_body
+after_words stage.Block = after_block
+
+-- after a line, or the first reason that holds at it
+unfoldable pub after_line : Draft → List ℕ → Result Draft Reason
+after_line d line =
+    if is_printable line then (if is_comment line then Ok d else after_words d.stage d line)
+    else Err Ascii
+
+-- ---- files
+
+-- the script of a draft whose file has ended
+abbrev pub listing_from : Draft → Listing
+listing_from d = record { width = d.width; height = d.height; classes = d.classes; lines = d.lines }
+
+-- at the end of the file, where line n would be
+abbrev pub at_end : ℕ → Stage → Draft → Result Listing ScriptFault
+at_end n stage.Body d = Ok (listing_from d)
+at_end n _ d = Err (record { line = n; why = End })
+
+-- goes on after line n, or stops there
+abbrev pub on_line : ℕ → Result Draft Reason → (Draft → Result Listing ScriptFault)
+    → Result Listing ScriptFault
+on_line n (Ok d) next = next d
+on_line n (Err reason) next = Err (record { line = n; why = reason })
+
+-- the lines from line n on
+abbrev pub read_from : ℕ → Draft → List (List ℕ) → Result Listing ScriptFault
+read_from n d [] = at_end n d.stage d
+read_from n d (line ∷ lines) = on_line n (after_line d line) (λ next. read_from (n + 1) next lines)
+
+-- all lines, in order: the fault is the first one
+unfoldable pub listing_of : List ℕ → Result Listing ScriptFault
+listing_of file =
+    if nat_le (length file) 100663296 then read_from 1 empty_draft (lines_of file)
+    else Err (record { line = 0; why = TooLarge })
+
+-- ---- what the program gives
+
+-- what the program's draft says
+abbrev pub draft_of : DraftOfProgram → Draft
+draft_of d =
+    record {
+      stage = d.stage;
+      width = d.width;
+      height = d.height;
+      classes = d.classes.items;
+      lines = d.lines.items;
+    }
+
+-- what taking a line returned, and left
+abbrev pub Takes : Result (Unit {0}) LineError → DraftOfProgram → Result Draft Reason → Type 0
+Takes (Ok _) new read = read ≡ Ok (draft_of new)
+Takes (Err line_error.Memory) new read = Unit {0}
+Takes (Err (line_error.Wrong reason)) new read = read ≡ Err reason
+
+-- what was read is the script of the listing
+abbrev pub Reads : Script → Result Listing ScriptFault → Type 0
+Reads s read = (listing : Listing) × (read ≡ Ok listing) × (s ≡ script_for listing)
+
+-- A fault is what the file says; without memory nothing is said.
+abbrev pub Says : Result Listing ScriptFault → ScriptRefused → Type 0
+Says read read_error.Memory = Unit {0}
+Says read (read_error.Fault fault) = read ≡ Err fault

@@ -1,0 +1,95 @@
+//! Reasons against lines, and the words of forms that this version doesn't build.
+
+ghost use Rattle.std.specs.Prelude.{◌≡◌};
+ghost use Rattle.spelling.specs.Words.{left, words_of};
+ghost use Rattle.script.specs.Later.{is_one_of, is_later_class, is_later_call};
+ghost use Rattle.script.specs.Reading.{header_reason, block_reason, call_reason};
+
+use crate::fault::Reason;
+use spelling::{begins_with, natural_in, word_at};
+
+/// First words outside blocks.
+const LATER_WORDS: &[u8] = b"font bitmap string display viewer done";
+
+/// First words of a class's lines.
+const LATER_IN_BLOCK: &[u8] = b"fill frame hline vline line bitmap text number on";
+
+/// Second words, after a task.
+const LATER_CALLS: &[u8] =
+    b"delete move_to move_by resize show hide to_top to_bottom set_class set_trans set_memdev \
+    set_value send invalidate invalidate_rect invalidate_area select colour bk_colour text_mode \
+    font save restore fill frame line bitmap text dev_create dev_delete dev_select dev_copy begin \
+    end exec1 lock unlock";
+
+/// Whether the word is one of those in the text.
+#[tactic(auto, unfolding(crate::specs::Later::is_one_of))]
+fn is_one_of(names: &[u8], word: &[u8]) -> bool
+    ensures { result ≡ is_one_of names.now word.now }
+{
+    names.split(|b| *b == b' ').any(|name| name == word)
+}
+
+/// Whether the words after `class` are of a class without a back colour.
+pub fn is_later_class(rest: Option<&[u8]>) -> bool
+    ensures { result ≡ is_later_class (left rest.entry) }
+{
+    match word_at(rest) {
+        None => false,
+        Some((_, rest)) => begins_with(b"-", rest),
+    }
+}
+
+#[tactic(auto, unfolding(crate::specs::Later::later_calls))]
+fn is_later_call(rest: Option<&[u8]>) -> bool
+    ensures { result ≡ is_later_call (left rest.entry) }
+{
+    match word_at(rest) {
+        None => false,
+        Some((word, rest)) => {
+            if word == b"create".as_slice() {
+                !begins_with(b"1", rest)
+            } else {
+                is_one_of(LATER_CALLS, word)
+            }
+        }
+    }
+}
+
+/// Why a line isn't the header's line of its place.
+pub fn header_reason(line: &[u8]) -> Reason
+    ensures { result ≡ header_reason line.now }
+{
+    if line == b"buffers 2".as_slice() || line == b"buffers 3".as_slice() {
+        Reason::Later
+    } else {
+        Reason::Header
+    }
+}
+
+/// Why a line doesn't belong in a class's block.
+#[tactic(auto, unfolding(crate::specs::Later::later_in_block))]
+pub fn block_reason(line: &[u8]) -> Reason
+    ensures { result ≡ block_reason (words_of line.now) }
+{
+    match word_at(Some(line)) {
+        Some((first, _)) if is_one_of(LATER_IN_BLOCK, first) => Reason::Later,
+        _ => Reason::Block,
+    }
+}
+
+/// Why a line that opens no class is no call line.
+#[tactic(auto, unfolding(crate::specs::Later::later_words))]
+pub fn call_reason(line: &[u8]) -> Reason
+    ensures { result ≡ call_reason (words_of line.now) }
+{
+    let Some((first, rest)) = word_at(Some(line)) else {
+        return Reason::Call;
+    };
+    if is_one_of(LATER_WORDS, first)
+        || (natural_in(1, 16, first).is_some() && is_later_call(rest))
+    {
+        Reason::Later
+    } else {
+        Reason::Call
+    }
+}

@@ -1,0 +1,9 @@
+-- The lemmas on words and lines that proofs of other crates may cite: what is cut, what is read, and what is read of a
+-- value's own spelling.
+pub use Rattle.spelling.proofs.CutLemmas.{IsWhole, parts-join}
+pub use Rattle.spelling.proofs.NumberSpellings.{number_takes, number_again, natural_takes, natural_again, natural_none}
+pub use Rattle.spelling.proofs.SpellingLaws.{bind_some, chosen, onto, nothing_left, line_from_words}
+pub use Rattle.spelling.proofs.SpellingLaws.{word_takes, named, same_name, after_word_takes, after_word_again}
+pub use Rattle.spelling.proofs.SpellingLaws.{number_at_takes, number_at_again, natural_in_takes, natural_in_again, natural_at_takes, natural_at_again, no_natural_in, no_natural}
+pub use Rattle.spelling.proofs.SpellingLaws.{colour_takes, colour_again, colour_no_dash}
+pub use Rattle.spelling.proofs.SpellingLaws.{whole_by_test, natural_whole, number_whole, colour_whole}
