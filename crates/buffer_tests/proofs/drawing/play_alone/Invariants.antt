@@ -1,0 +1,13 @@
+use Rattle.std.specs.Prelude.{◌≡◌, ◌≤◌, IsTrue}
+use Rattle.multibuf.specs.Buffering.{IsEven}
+use Rattle.buffer_tests.proofs.drawing.play_alone.Given as goal
+
+abbrev pub invariant-loop-row : goal.invariant-loop-row
+invariant-loop-row g l = record {
+  even : IsEven l.buffers;
+  alone : IsTrue l.buffers.drawer.alone;
+  width : l.buffers.width ≡ 2;
+  height : l.buffers.height ≡ 1;
+  count : l.buffers.drawer.buffers ≡ l.n;
+  switches : l.buffers.switches ≤ l.row-index;
+}

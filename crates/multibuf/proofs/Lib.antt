@@ -1,0 +1,4 @@
+mod CopyLemmas
+mod KeptFrames
+mod RestLemmas
+mod FitLemmas

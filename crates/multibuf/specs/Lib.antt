@@ -1,0 +1,10 @@
+pub mod Owners
+pub mod Stocks
+pub mod Parts
+pub mod Held
+pub mod Buffering
+pub mod Frames
+pub mod Screens
+pub mod Opening
+pub mod Fitting
+pub mod Lending
