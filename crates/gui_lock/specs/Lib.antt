@@ -1,0 +1,5 @@
+pub mod Blocks
+pub mod Entries
+pub mod Passes
+pub mod Rule
+pub mod Seats
