@@ -1,0 +1,239 @@
+//! Commands on files and streams in memory: the exit status, and the bytes that are written.
+
+use mtgui_top::{end, plain_words};
+use outside::{MemSink, MemStore, NamedFile};
+use std::alloc::Global;
+use std::str;
+use std::test::*;
+
+/// Room for all that is written.
+const ROOM: usize = 10_000;
+
+const FIRST: &str =
+    "mtgui 1\nscreen 8 4\nbuffers 1\ndesktop 000000\nclass 1 0000FF\nend\n1 create 1 2 1 3 2 1\n\
+    1 exec\n1 scan\n";
+
+const FIRST_PLAYED: &str =
+    "ok 2\nok 2\nframe 8 4\n000000*8\n000000*2 0000FF*3 000000*3\n=\n000000*8\n\
+    done calls 3 refused 0 shown 0 windows 2\n";
+
+/// The window above covers a part of the one below, and reaches over two edges of the screen.
+const COVERED: &str =
+    "mtgui 1\nscreen 4 2\nbuffers 1\ndesktop 000001\nclass 1 0000FF\nend\nclass 2 00FF00\nend\n\
+    1 create 1 0 0 3 1 1\n2 create 1 2 -1 9 2 2\n1 scan\n1 exec\n2 scan\n";
+
+/// A store whose one file is `F`. The numbers are those of the reads that fail.
+fn store_of(alloc: Global, text: &str, failing: &[u64]) -> Result<MemStore, Fail> {
+    let mut files = Vec::new(alloc);
+    files.push(NamedFile {
+        name: String::from_str(alloc, "F")?,
+        bytes: Vec::from_slice(alloc, text.as_bytes())?,
+    })?;
+    Ok(MemStore::new(files, Vec::from_slice(alloc, failing)?))
+}
+
+/// A sink for so many bytes. The numbers are those of the writes that fail.
+fn sink_of(alloc: Global, room: usize, failing: &[u64]) -> Result<MemSink, Fail> {
+    Ok(MemSink::new(alloc, room, Vec::from_slice(alloc, failing)?)?)
+}
+
+/// The status of these words.
+fn status_of(
+    alloc: Global,
+    words: &str,
+    mut store: MemStore,
+    out: &mut MemSink,
+) -> Result<u8, Fail> {
+    let mut owned = Vec::new(alloc);
+    for word in words.split_whitespace() {
+        owned.push(String::from_str(alloc, word)?)?;
+    }
+    Ok(plain_words(alloc, &owned, &mut store, out))
+}
+
+#[test]
+fn scripts_are_played_and_painted(rt: HostRuntime) -> Result<(), Fail> {
+    let alloc = rt.alloc();
+    let rows = [
+        ("play F", FIRST, 0, FIRST_PLAYED),
+        (
+            "play F",
+            "mtgui 1\nscreen 1 1\nbuffers 1\ndesktop 000000\n",
+            0,
+            "done calls 0 refused 0 shown 0 windows 1\n",
+        ),
+        (
+            "play F",
+            "mtgui 1\nscreen 1 1\nbuffers 1\ndesktop 000000\nclass 1 0000FF\nend\n",
+            0,
+            "done calls 0 refused 0 shown 0 windows 1\n",
+        ),
+        (
+            "play F",
+            "mtgui 1\nscreen 2 1\nbuffers 1\ndesktop 000000\nclass 1 0000FF\nend\n\
+            1 create 1 0 0 0 1 1\n1 create 1 0 0 1 1 7\n1 exec\n",
+            0,
+            "refused BadSize\nrefused NoClass 7\nok 1\ndone calls 3 refused 2 shown 0 windows 1\n",
+        ),
+        (
+            "play F",
+            COVERED,
+            0,
+            "ok 2\nok 3\nframe 4 2\n000000*4\n=\nok 3\nframe 4 2\n0000FF*2 00FF00*2\n000001*4\n\
+            done calls 5 refused 0 shown 0 windows 3\n",
+        ),
+        (
+            "play F",
+            "mtgui 2\nscreen 1 1\nbuffers 1\ndesktop 000000\n",
+            3,
+            "fault 1 header\n",
+        ),
+        ("play F", "", 3, "fault 1 end\n"),
+        (
+            "paint F",
+            FIRST,
+            0,
+            "frame 8 4\n000000*8\n000000*2 0000FF*3 000000*3\n=\n000000*8\n",
+        ),
+        // A refused call and calls that paint nothing change nothing in it.
+        (
+            "paint F",
+            "mtgui 1\nscreen 4 2\nbuffers 1\ndesktop 000001\nclass 1 0000FF\nend\n\
+            class 2 00FF00\nend\n1 create 1 0 0 3 1 1\n2 create 1 2 -1 9 2 2\n\
+            1 create 1 0 0 0 1 1\n1 scan\n",
+            0,
+            "frame 4 2\n0000FF*2 00FF00*2\n000001*4\n",
+        ),
+        (
+            "paint F",
+            "mtgui 1\nscreen 1 1\nbuffers 1\ndesktop 123456\n",
+            0,
+            "frame 1 1\n123456\n",
+        ),
+        ("paint F", "mtgui 2\n", 3, "fault 1 header\n"),
+        // No file has the name; it may be the sign alone.
+        ("play G", FIRST, 4, ""),
+        ("play -", FIRST, 4, ""),
+        ("paint G", FIRST, 4, ""),
+    ];
+    for (words, text, status, bytes) in rows {
+        let mut out = sink_of(alloc, ROOM, &[])?;
+        let answered = status_of(alloc, words, store_of(alloc, text, &[])?, &mut out)?;
+        assert_eq!(rt; answered, status, "{words}: {text}");
+        assert_eq!(rt; str::from_utf8(out.bytes())?, bytes, "{words}: {text}");
+    }
+    Ok(())
+}
+
+#[test]
+fn other_words_are_usage(rt: HostRuntime) -> Result<(), Fail> {
+    let alloc = rt.alloc();
+    let rows = [
+        "",
+        "play",
+        "F",
+        "paint",
+        "Paint F",
+        "paint F F",
+        "paint -F",
+        "draw F",
+        "Play F",
+        "play F F",
+        "play -F",
+        "play --",
+        "play -- F",
+    ];
+    for words in rows {
+        let mut out = sink_of(alloc, ROOM, &[])?;
+        let answered = status_of(alloc, words, store_of(alloc, FIRST, &[])?, &mut out)?;
+        assert_eq!(rt; answered, 2, "{words}");
+        assert!(rt; out.bytes().is_empty(), "{words}");
+    }
+    Ok(())
+}
+
+#[test]
+fn a_failed_read_ends_a_command(rt: HostRuntime) -> Result<(), Fail> {
+    let alloc = rt.alloc();
+    for words in ["play F", "paint F"] {
+        let mut out = sink_of(alloc, ROOM, &[])?;
+        let answered = status_of(alloc, words, store_of(alloc, FIRST, &[0])?, &mut out)?;
+        assert_eq!(rt; answered, 4, "{words}");
+        assert!(rt; out.bytes().is_empty(), "{words}");
+    }
+    Ok(())
+}
+
+#[test]
+fn a_full_sink_ends_a_command(rt: HostRuntime) -> Result<(), Fail> {
+    let alloc = rt.alloc();
+    for room in 0..FIRST_PLAYED.len() {
+        let mut out = sink_of(alloc, room, &[])?;
+        let answered = status_of(alloc, "play F", store_of(alloc, FIRST, &[])?, &mut out)?;
+        assert_eq!(rt; answered, 5, "room for {room}");
+        assert_eq!(rt; out.bytes(), &FIRST_PLAYED.as_bytes()[..room]);
+    }
+    let rows = [
+        ("paint F", FIRST, 12, "frame 8 4\n00"),
+        ("play F", "mtgui 2\n", 7, "fault 1"),
+    ];
+    for (words, text, room, bytes) in rows {
+        let mut out = sink_of(alloc, room, &[])?;
+        let answered = status_of(alloc, words, store_of(alloc, text, &[])?, &mut out)?;
+        assert_eq!(rt; answered, 5, "{words}: {text}");
+        assert_eq!(rt; str::from_utf8(out.bytes())?, bytes, "{words}: {text}");
+    }
+    Ok(())
+}
+
+/// How the play of the first script ends where the write of this number fails: whether with the
+/// status of a sink fault after a front of its text, or with status 0 after all of it.
+fn play_with_failed_write(alloc: Global, number: u64) -> Result<Option<u8>, Fail> {
+    let mut out = sink_of(alloc, ROOM, &[number])?;
+    let answered = status_of(alloc, "play F", store_of(alloc, FIRST, &[])?, &mut out)?;
+    let whole = out.bytes() == FIRST_PLAYED.as_bytes();
+    let front = FIRST_PLAYED.as_bytes().starts_with(out.bytes());
+    let right = match answered {
+        0 => whole,
+        5 => front && !whole,
+        _ => false,
+    };
+    Ok(if right { Some(answered) } else { None })
+}
+
+#[test]
+fn a_failed_write_ends_a_command(rt: HostRuntime) -> Result<(), Fail> {
+    let mut failed = 0u8;
+    for number in 0..100 {
+        let answered = play_with_failed_write(rt.alloc(), number)?;
+        assert!(rt; answered.is_some(), "write {number}");
+        if answered == Some(5) {
+            failed = failed.saturating_add(1);
+        }
+    }
+    // Three replies, a picture and a summary are written, and no write comes after a failed one.
+    assert!(rt; 5 <= failed && failed < 100, "{failed} writes");
+    Ok(())
+}
+
+#[test]
+fn a_process_tells_how_it_ended(rt: HostRuntime) -> Result<(), Fail> {
+    let rows = [
+        (0, ""),
+        (
+            2,
+            "usage: mtgui play FILE, paint FILE, gen NUMBER SIZE, \
+            run FILE [--journal] [--vnc N] [--calls N]\n",
+        ),
+        (3, "mtgui: script fault\n"),
+        (4, "mtgui: store fault\n"),
+        (5, "mtgui: sink fault\n"),
+        (9, "mtgui: out of memory\n"),
+    ];
+    for (status, line) in rows {
+        let mut err = sink_of(rt.alloc(), ROOM, &[])?;
+        let _ = end(status, &mut err);
+        assert_eq!(rt; str::from_utf8(err.bytes())?, line, "status {status}");
+    }
+    Ok(())
+}

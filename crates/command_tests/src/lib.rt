@@ -1,0 +1,10 @@
+//! Tests of the core and of the commands: what scripts are answered, how commands end, and that
+//! the shown picture is the painter's.
+#![tactic(auto)]
+
+#[cfg(test)]
+mod commands;
+#[cfg(test)]
+mod session;
+#[cfg(test)]
+mod windows;

@@ -1,0 +1,3 @@
+pub mod Counter
+pub mod Pairs
+pub mod Threads

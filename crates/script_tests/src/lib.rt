@@ -1,0 +1,12 @@
+//! Tests of what comes in and goes out: scripts and their faults, the texts that are written, files
+//! and sinks, and the room that an event takes.
+#![tactic(auto)]
+
+#[cfg(test)]
+mod entries;
+#[cfg(test)]
+mod files;
+#[cfg(test)]
+mod scripts;
+#[cfg(test)]
+mod texts;
