@@ -1,24 +1,23 @@
 -- The laws of bodies: each is a bitmap's or has a fault, and not both, and it has one of either.
-use Rattle.std.proofs.Common.{◌≡◌, ◌⊎◌, ℕ, ◌+◌, ◌*◌, ◌<◌, ◌≤◌, true, false, ltb, List, [], ◌∷◌, ◌++◌, length, take, Option, Some, None, refl, sym, ap, subst, ◌∙◌, inl, inr, arith, append_assoc}
+use Rattle.std.proofs.Common.{◌≡◌, ◌⊎◌, ℕ, ◌+◌, ◌*◌, ◌<◌, ◌≤◌, Bool, true, false, cond, ltb, List, [], ◌∷◌, ◌++◌, length, Option, Some, None, Result, Ok, Err, refl, sym, ap, subst, ◌∙◌, inl, inr, arith, append_assoc}
 use Rattle.std.specs.Prelude.{bytes_eq, codes}
 use Rattle.std.specs.List.{flat_map}
-use Rattle.std.proofs.lemmas.Bool.{cases_order, cases_lt}
 use Rattle.std.proofs.lemmas.Bool.Decides.{nat_tests}
-use Rattle.std.proofs.lemmas.List.{append-nil, length-append, length-take, take_all, take_at, take-append-le, take-take, same_from_push}
+use Rattle.std.proofs.lemmas.List.{append-nil, length-append, same_from_push}
 use Rattle.std.proofs.lemmas.List.Concat.{flat_map-append}
-use Rattle.spelling.specs.Parts.{lines_of}
-use Rattle.spelling.proofs.CallerLemmas.{chosen, named}
 use Rattle.std.proofs.lemmas.Option.{same_Some}
+use Rattle.spelling.specs.Parts.{lines_of}
+use Rattle.spelling.specs.LineReading.{on, run, IsReading}
+use Rattle.spelling.proofs.CallerLemmas as lines
+use Rattle.spelling.proofs.CallerLemmas.{chosen, named, same_name, on_ok, run_on}
 use Rattle.bitmap.specs.declared.fault.BitmapWhy.{BitmapWhy}
 use Rattle.bitmap.specs.declared.fault.BitmapWhy.TheVariants as why
 use Rattle.bitmap.specs.declared.fault.BitmapFault.{BitmapFault}
 use Rattle.bitmap.specs.Bitmaps.{Bitmap}
 use Rattle.bitmap.specs.Texts.{AreRows, IsBody}
-use Rattle.bitmap.specs.Faults.{AreFirstRows, AreAll, IsFront, IsFault, IsCut, IsWrong, why_after}
+use Rattle.bitmap.specs.Faults.{Place, AfterRows, AfterEnd, AreAll, IsFront, IsFault, WhyAt, why_at, why_cut}
 use Rattle.bitmap.specs.Reading.{row_of, HasRead, fault_after}
-use Rattle.bitmap.proofs.RowLaws.{row_takes, row_again, one_list, as_many, count_points, one_more, last_row, first_rows}
-
--- ---- fronts
+use Rattle.bitmap.proofs.RowLaws.{row_takes, row_again, one_list, as_many, count_points, one_more}
 
 abbrev fault_at : ℕ → BitmapWhy → BitmapFault
 fault_at line reason = record { line = line; why = reason }
@@ -26,84 +25,174 @@ fault_at line reason = record { line = line; why = reason }
 abbrev joined : List (List (Option ℕ)) → List (Option ℕ)
 joined rows = flat_map (λ row. row) rows
 
-all_lines : (width height : ℕ) (lines : List (List ℕ)) → AreAll width height lines → length lines ≡ height + 1
-all_lines width height lines all =
-    let same = ap length all.spelled in
-    let both = length-append all.before (codes "end" ∷ []) in
-    let many = as_many width all.before all.rows all.each in
-    let count = all.count in
-    omega arith
+-- ---- reading line by line
 
-front_within : (width height : ℕ) (lines : List (List ℕ)) → IsFront width height lines → length lines ≤ height + 1
-front_within width height lines (inl rows) = let many = as_many width lines rows.rows rows.each in let few = rows.few in omega arith
-front_within width height lines (inr all) = let many = all_lines width height lines all in omega arith
+-- the rows so far, or all of them, and the line `end`
+data Draft : Type 0 where
+  rows_so_far : List (List (Option ℕ)) → Draft
+  all_rows : List (List (Option ℕ)) → Draft
 
--- the first lines of a front are one
-front_before : (width height n : ℕ) (lines : List (List ℕ)) → IsFront width height lines → IsFront width height (take n lines)
-front_before width height n lines (inl front) =
-    let count = length-take n front.rows in
-    let few = front.few in
-    inl (record { rows = take n front.rows; each = first_rows width n lines front.rows front.each; few = omega arith })
-front_before width height n lines (inr all) =
-    let long = all_lines width height lines all in
-    let many = as_many width all.before all.rows all.each in
-    let high = all.count in
-    elim (cases_lt height n) [
-      | inl past ↦ inr (subst (AreAll width height) (sym (take_all n lines (omega arith))) all)
-      | inr within ↦
-          let count = length-take n all.rows in
-          let some = ap (take n) all.spelled ∙ take-append-le n all.before (codes "end" ∷ []) (omega arith) in
-          inl (record { rows = take n all.rows; each = subst (λ (ls : List (List ℕ)). AreRows width ls (take n all.rows)) (sym some) (first_rows width n all.before all.rows all.each); few = omega arith })
+abbrev start : Draft
+start = rows_so_far []
+
+abbrev place_of : Draft → Place
+place_of (rows_so_far rows) = AfterRows (length rows)
+place_of (all_rows rows) = AfterEnd
+
+abbrev with_row : List (List (Option ℕ)) → Option (List (Option ℕ)) → Result Draft BitmapWhy
+with_row rows None = Err why.Row
+with_row rows (Some row) = Ok (rows_so_far (rows ++ row ∷ []))
+
+abbrev with_end : List (List (Option ℕ)) → Bool → Result Draft BitmapWhy
+with_end rows is_end = cond is_end (Ok (all_rows rows)) (Err why.End)
+
+abbrev step : ℕ → ℕ → Draft → List ℕ → Result Draft BitmapWhy
+step width height (rows_so_far rows) line = cond (ltb (length rows) height) (with_row rows (row_of width line)) (with_end rows (bytes_eq line (codes "end")))
+step width height (all_rows rows) line = Err why.End
+
+-- the draft has read these lines
+abbrev Stands : ℕ → ℕ → Draft → List (List ℕ) → Type 0
+Stands width height (rows_so_far rows) front = AreRows width front rows × (length rows ≤ height)
+Stands width height (all_rows rows) front = (before : List (List ℕ)) × AreRows width before rows × (length rows ≡ height) × (front ≡ before ++ codes "end" ∷ [])
+
+row_stands : (width height : ℕ) (rows : List (List (Option ℕ))) (front : List (List ℕ)) (line : List ℕ) (o : Option (List (Option ℕ))) (e : Draft) → AreRows width front rows → length rows < height → row_of width line ≡ o → with_row rows o ≡ Ok e → Stands width height e (front ++ line ∷ [])
+row_stands width height rows front line None e each less is taken = absurd cc
+row_stands width height rows front line (Some row) e each less is taken =
+    let t = row_takes width line row is in
+    let more = length-append rows (row ∷ []) in
+    let same : rows_so_far (rows ++ row ∷ []) ≡ e = cc in
+    subst (λ (d : Draft). Stands width height d (front ++ line ∷ [])) same (one_more width front rows line row each t.0 t.1, omega arith)
+
+end_stands : (width height : ℕ) (rows : List (List (Option ℕ))) (front : List (List ℕ)) (line : List ℕ) (b : Bool) (e : Draft) → AreRows width front rows → length rows ≡ height → bytes_eq line (codes "end") ≡ b → with_end rows b ≡ Ok e → Stands width height e (front ++ line ∷ [])
+end_stands width height rows front line true e each all is taken =
+    let same : all_rows rows ≡ e = cc in
+    subst (λ (d : Draft). Stands width height d (front ++ line ∷ [])) same (front, each, all, ap (λ (l : List ℕ). front ++ l ∷ []) (named line (codes "end") is))
+end_stands width height rows front line false e each all is taken = absurd cc
+
+not_less : (n height : ℕ) → n ≤ height → ltb n height ≡ false → n ≡ height
+not_less n height few no_less = grind (arith, nat_tests)
+
+is_less : (n height : ℕ) → ltb n height ≡ true → n < height
+is_less n height less = grind (arith, nat_tests)
+
+step_stands : (width height : ℕ) (d e : Draft) (front : List (List ℕ)) (line : List ℕ) → Stands width height d front → step width height d line ≡ Ok e → Stands width height e (front ++ line ∷ [])
+step_stands width height (rows_so_far rows) e front line was is =
+    elim (chosen (ltb (length rows) height) (with_row rows (row_of width line)) (with_end rows (bytes_eq line (codes "end"))) (Ok e) is) [
+      | inl row ↦ row_stands width height rows front line (row_of width line) e was.0 (is_less (length rows) height row.0) refl row.1
+      | inr end ↦ end_stands width height rows front line (bytes_eq line (codes "end")) e was.0 (not_less (length rows) height was.1 end.0) refl end.1
     ]
+step_stands width height (all_rows rows) e front line was is = absurd cc
 
--- a front that is as long as rows are
-front_rows : (width height : ℕ) (lines : List (List ℕ)) → length lines ≤ height → IsFront width height lines → AreFirstRows width height lines
-front_rows width height lines few (inl rows) = rows
-front_rows width height lines few (inr all) = let long = all_lines width height lines all in absurd (omega arith)
+stands_after : (width height : ℕ) (d e : Draft) (front lines : List (List ℕ)) → Stands width height d front → run (step width height) d lines ≡ Ok e → Stands width height e (front ++ lines)
+stands_after width height d e front [] was is = let same : d ≡ e = cc in subst (Stands width height e) (sym (append-nil front)) (subst (λ (x : Draft). Stands width height x front) same was)
+stands_after width height d e front (line ∷ lines) was is =
+    let next = on_ok (step width height d line) (λ next. run (step width height) next lines) e is in
+    subst (Stands width height e) (append_assoc front (line ∷ []) lines) (stands_after width height next.0 e (front ++ line ∷ []) lines (step_stands width height d next.0 front line was next.1) next.2)
 
-front_all : (width height : ℕ) (lines : List (List ℕ)) → height < length lines → IsFront width height lines → AreAll width height lines
-front_all width height lines more (inl front) = let many = as_many width lines front.rows front.each in let few = front.few in absurd (omega arith)
-front_all width height lines more (inr all) = all
+front_of : (width height : ℕ) (d : Draft) (front : List (List ℕ)) → Stands width height d front → IsFront width height front (place_of d)
+front_of width height (rows_so_far rows) front was = record { rows = rows; each = was.0; count = refl; few = was.1 }
+front_of width height (all_rows rows) front was = record { before = was.0; rows = rows; each = was.1; count = was.2; spelled = was.3 }
 
--- ---- what is wrong
+-- ---- what is read
 
--- a line after a front makes it none
-wrong : (width height : ℕ) (body : List ℕ) (front : List (List ℕ)) (line : List ℕ) (rest : List (List ℕ)) (reason : BitmapWhy) → IsFront width height front → lines_of body ≡ front ++ line ∷ rest → (IsFront width height (front ++ line ∷ []) → ⊥) → reason ≡ why_after height (length front)
-    → IsFault width height body (fault_at (length front + 1) reason)
-wrong width height body front line rest reason is e never because =
-    let more = length-append front (line ∷ []) in
-    let long = ap length e ∙ length-append front (line ∷ rest) in
-    let next : take (length front + 1) (lines_of body) ≡ front ++ line ∷ [] =
-    ap (take (length front + 1)) (e ∙ sym (append_assoc front (line ∷ []) rest)) ∙ take_at (front ++ line ∷ []) rest (length front + 1) (omega arith) in
-    record {
-      right = length front;
-      counted = refl;
-      front = subst (IsFront width height) (sym (ap (take (length front)) e ∙ take_at front (line ∷ rest) (length front) refl)) is;
-      wrong = inr (omega arith, (λ one. never (subst (IsFront width height) next one)), because);
-    }
+takes_row : (width height : ℕ) (rows : List (List (Option ℕ))) (line : List ℕ) (row : List (Option ℕ)) → length rows < height → row_of width line ≡ Some row → step width height (rows_so_far rows) line ≡ Ok (rows_so_far (rows ++ row ∷ []))
+takes_row width height rows line row less is =
+    let test : ltb (length rows) height ≡ true = grind (arith, nat_tests) in
+    rw (test, is) refl
 
-cut : (width height : ℕ) (body : List ℕ) (front : List (List ℕ)) → IsFront width height front → lines_of body ≡ front → length front ≤ height → IsFault width height body (fault_at (length front + 1) why.End)
-cut width height body front is e few = record {
-  right = length front;
-  counted = refl;
-  front = subst (IsFront width height) (sym (take_all (length front) (lines_of body) (omega (arith, ap length e)) ∙ e)) is;
-  wrong = inl (sym (ap length e), few, refl);
+takes_no_row : (width height : ℕ) (rows : List (List (Option ℕ))) (line : List ℕ) → length rows < height → row_of width line ≡ None → step width height (rows_so_far rows) line ≡ Err why.Row
+takes_no_row width height rows line less is =
+    let test : ltb (length rows) height ≡ true = grind (arith, nat_tests) in
+    rw (test, is) refl
+
+takes_end : (width height : ℕ) (rows : List (List (Option ℕ))) (line : List ℕ) → length rows ≡ height → bytes_eq line (codes "end") ≡ true → step width height (rows_so_far rows) line ≡ Ok (all_rows rows)
+takes_end width height rows line all is =
+    let test : ltb (length rows) height ≡ false = grind (arith, nat_tests) in
+    rw (test, is) refl
+
+takes_no_end : (width height : ℕ) (rows : List (List (Option ℕ))) (line : List ℕ) → length rows ≡ height → bytes_eq line (codes "end") ≡ false → step width height (rows_so_far rows) line ≡ Err why.End
+takes_no_end width height rows line all is =
+    let test : ltb (length rows) height ≡ false = grind (arith, nat_tests) in
+    rw (test, is) refl
+
+goes_on : (width height : ℕ) (d e : Draft) (line : List ℕ) (more : List (List ℕ)) → step width height d line ≡ Ok e → run (step width height) d (line ∷ more) ≡ run (step width height) e more
+goes_on width height d e line more is = ap (λ (r : Result Draft BitmapWhy). on r (λ next. run (step width height) next more)) is
+
+abbrev rowed : List (List (Option ℕ)) → Result Draft BitmapWhy
+rowed rows = Ok (rows_so_far rows)
+
+rows_run : (width height : ℕ) (done : List (List (Option ℕ))) (front : List (List ℕ)) (rows : List (List (Option ℕ))) → AreRows width front rows → length done + length rows ≤ height → run (step width height) (rows_so_far done) front ≡ Ok (rows_so_far (done ++ rows))
+rows_run width height done [] [] each few = ap rowed (sym (append-nil done))
+rows_run width height done [] (row ∷ rows) each few = absurd each
+rows_run width height done (line ∷ front) [] each few = absurd each
+rows_run width height done (line ∷ front) (row ∷ rows) each few =
+    let more = length-append done (row ∷ []) in
+    goes_on width height (rows_so_far done) (rows_so_far (done ++ row ∷ [])) line front (takes_row width height done line row (omega arith) (row_again width line row each.0 each.1)) ∙ rows_run width height (done ++ row ∷ []) front rows each.2 (omega arith)
+    ∙ ap rowed (append_assoc done (row ∷ []) rows)
+
+all_run : (width height : ℕ) (lines : List (List ℕ)) (all : AreAll width height lines) → run (step width height) start lines ≡ Ok (all_rows all.rows)
+all_run width height lines all =
+    let count = all.count in
+    ap (run (step width height) start) all.spelled ∙ run_on (step width height) start (rows_so_far all.rows) all.before (codes "end" ∷ []) (rows_run width height [] all.before all.rows all.each (omega arith))
+    ∙ goes_on width height (rows_so_far all.rows) (all_rows all.rows) (codes "end") [] (takes_end width height all.rows (codes "end") count (same_name (codes "end")))
+
+-- what is read of a front
+abbrev IsReadAs : ℕ → ℕ → List (List ℕ) → Place → Type 0
+IsReadAs width height front place = (d : Draft) × (run (step width height) start front ≡ Ok d) × (place_of d ≡ place)
+
+front_read : (width height : ℕ) (front : List (List ℕ)) (place : Place) → IsFront width height front place → IsReadAs width height front place
+front_read width height front (AfterRows many) is =
+    let count = is.count in
+    let few = is.few in
+    (rows_so_far is.rows, rows_run width height [] front is.rows is.each (omega arith), ap AfterRows is.count)
+front_read width height front AfterEnd is = (all_rows is.rows, all_run width height front is, refl)
+
+-- ---- why a line is not taken
+
+row_reason : (n height : ℕ) → ltb n height ≡ true → why.Row ≡ why_at height (AfterRows n)
+row_reason n height less = rw less refl
+
+end_reason : (n height : ℕ) → ltb n height ≡ false → why.End ≡ why_at height (AfterRows n)
+end_reason n height more = rw more refl
+
+no_row_why : (rows : List (List (Option ℕ))) (o : Option (List (Option ℕ))) (reason : BitmapWhy) → with_row rows o ≡ Err reason → reason ≡ why.Row
+no_row_why rows None reason is = cc
+no_row_why rows (Some row) reason is = absurd cc
+
+no_end_why : (rows : List (List (Option ℕ))) (b : Bool) (reason : BitmapWhy) → with_end rows b ≡ Err reason → reason ≡ why.End
+no_end_why rows true reason is = absurd cc
+no_end_why rows false reason is = cc
+
+step_why : (width height : ℕ) (d : Draft) (line : List ℕ) (reason : BitmapWhy) → step width height d line ≡ Err reason → WhyAt height (place_of d) line reason
+step_why width height (rows_so_far rows) line reason is =
+    elim (chosen (ltb (length rows) height) (with_row rows (row_of width line)) (with_end rows (bytes_eq line (codes "end"))) (Err reason) is) [
+      | inl row ↦ no_row_why rows (row_of width line) reason row.1 ∙ row_reason (length rows) height row.0
+      | inr end ↦ no_end_why rows (bytes_eq line (codes "end")) reason end.1 ∙ end_reason (length rows) height end.0
+    ]
+step_why width height (all_rows rows) line reason is = cc
+
+reading : (width height : ℕ) → IsReading (step width height) start place_of (IsFront width height) (WhyAt height)
+reading width height = record {
+  sound = λ front d is. front_of width height d front (stands_after width height start d [] front (tt, omega arith) is);
+  complete = λ front place is. front_read width height front place is;
+  reasons = λ front d line reason is wrong. step_why width height d line reason wrong;
+  one_reason = λ front place line r s is longer one other. one ∙ sym other;
 }
 
-row_reason : (height n : ℕ) → n < height → why.Row ≡ why_after height n
-row_reason height n less =
-    let test : ltb n height ≡ true = grind (arith, nat_tests) in
-    rw test refl
+-- ---- faults
 
-end_reason : (height n : ℕ) → height ≤ n → why.End ≡ why_after height n
-end_reason height n more =
-    let test : ltb n height ≡ false = grind (arith, nat_tests) in
-    rw test refl
+stuck : (width height n : ℕ) (body : List ℕ) (front : List (List ℕ)) (line : List ℕ) (rest : List (List ℕ)) (d : Draft) (reason : BitmapWhy) → n ≡ length front + 1 → run (step width height) start front ≡ Ok d → step width height d line ≡ Err reason → lines_of body ≡ front ++ line ∷ rest → IsFault width height body (fault_at n reason)
+stuck width height n body front line rest d reason counted read is e = record {
+  front = front;
+  rest = line ∷ rest;
+  place = place_of d;
+  parts = e;
+  counted = counted;
+  right = (reading width height).sound front d read;
+  wrong = (lines.no_front (step width height) start place_of (IsFront width height) (WhyAt height) why_cut (reading width height) front d line reason read is, step_why width height d line reason is);
+}
 
 -- ---- what was read
-
-rows_front : (width height n : ℕ) (body : List ℕ) (left : List (List ℕ)) (points : List (Option ℕ)) (so : HasRead width n body left points) → n ≤ height → IsFront width height so.lines
-rows_front width height n body left points so few = inl (record { rows = so.rows; each = so.each; few = subst (λ (k : ℕ). k ≤ height) (sym so.count) few })
 
 lines_read : (width n : ℕ) (body : List ℕ) (left : List (List ℕ)) (points : List (Option ℕ)) (so : HasRead width n body left points) → length so.lines ≡ n
 lines_read width n body left points so = as_many width so.lines so.rows so.each ∙ so.count
@@ -128,55 +217,40 @@ row_read width n body line left points row so is =
 
 -- ---- and is at fault
 
-renumbered : (width height : ℕ) (body : List ℕ) (n m : ℕ) (reason : BitmapWhy) → n ≡ m → IsFault width height body (fault_at (n + 1) reason) → IsFault width height body (fault_at (m + 1) reason)
-renumbered width height body n m reason same fault = subst (λ (k : ℕ). IsFault width height body (fault_at (k + 1) reason)) same fault
+rows_read : (width height n : ℕ) (body : List ℕ) (left : List (List ℕ)) (points : List (Option ℕ)) (so : HasRead width n body left points) → n ≤ height → run (step width height) start so.lines ≡ Ok (rows_so_far so.rows)
+rows_read width height n body left points so few = let count = so.count in rows_run width height [] so.lines so.rows so.each (omega arith)
 
 pub stopped : (width height n : ℕ) (body : List ℕ) (points : List (Option ℕ)) → HasRead width n body [] points → n ≤ height → IsFault width height body (fault_at (n + 1) why.End)
-stopped width height n body points so few =
-    let count = lines_read width n body [] points so in
-    renumbered width height body (length so.lines) n why.End count (cut width height body so.lines (rows_front width height n body [] points so few) (so.spelled ∙ append-nil so.lines) (omega arith))
+stopped width height n body points so few = record {
+  front = so.lines;
+  rest = [];
+  place = AfterRows n;
+  parts = so.spelled;
+  counted = ap (λ (k : ℕ). k + 1) (sym (lines_read width n body [] points so));
+  right = record { rows = so.rows; each = so.each; count = so.count; few = few };
+  wrong = refl;
+}
 
 pub no_row : (width height n : ℕ) (body line : List ℕ) (left : List (List ℕ)) (points : List (Option ℕ)) → HasRead width n body (line ∷ left) points → n < height → row_of width line ≡ None → IsFault width height body (fault_at (n + 1) why.Row)
 no_row width height n body line left points so less none =
-    let count = lines_read width n body (line ∷ left) points so in
-    let more = length-append so.lines (line ∷ []) in
-    renumbered width height body (length so.lines) n why.Row count
-    (wrong width height body so.lines line left why.Row (rows_front width height n body (line ∷ left) points so (omega arith)) so.spelled
-    (λ front.
-    let rows = front_rows width height (so.lines ++ line ∷ []) (omega arith) front in
-    let last = last_row width so.lines rows.rows line rows.each in
-    none_is_some last.0 (sym none ∙ row_again width line last.0 last.1 last.2))
-    (row_reason height (length so.lines) (omega arith)))
-  where
-    none_is_some : (row : List (Option ℕ)) → None ≡ Some row → ⊥
-    none_is_some row e = cc
+    let count = so.count in
+    stuck width height (n + 1) body so.lines line left (rows_so_far so.rows) why.Row (ap (λ (k : ℕ). k + 1) (sym (lines_read width n body (line ∷ left) points so))) (rows_read width height n body (line ∷ left) points so (omega arith))
+    (takes_no_row width height so.rows line (omega arith) none) so.spelled
 
 other_end : (width height : ℕ) (body line : List ℕ) (left : List (List ℕ)) (points : List (Option ℕ)) → HasRead width height body (line ∷ left) points → bytes_eq line (codes "end") ≡ false → IsFault width height body (fault_at (height + 1) why.End)
 other_end width height body line left points so other =
-    let count = lines_read width height body (line ∷ left) points so in
-    let more = length-append so.lines (line ∷ []) in
-    renumbered width height body (length so.lines) height why.End count
-    (wrong width height body so.lines line left why.End (rows_front width height height body (line ∷ left) points so (omega arith)) so.spelled
-    (λ front.
-    let all = front_all width height (so.lines ++ line ∷ []) (omega arith) front in
-    let last = same_from_push so.lines all.before line (codes "end") all.spelled in
-    no_end line other last.1)
-    (end_reason height (length so.lines) (omega arith)))
-  where
-    no_end : (line : List ℕ) → bytes_eq line (codes "end") ≡ false → line ≡ codes "end" → ⊥
-    no_end line other is = absurd (cc (sym other ∙ ap (λ (l : List ℕ). bytes_eq l (codes "end")) is))
+    stuck width height (height + 1) body so.lines line left (rows_so_far so.rows) why.End (ap (λ (k : ℕ). k + 1) (sym (lines_read width height body (line ∷ left) points so))) (rows_read width height height body (line ∷ left) points so (omega arith))
+    (takes_no_end width height so.rows line so.count other) so.spelled
 
 after_end : (width height : ℕ) (body line next : List ℕ) (left : List (List ℕ)) (points : List (Option ℕ)) → HasRead width height body (line ∷ next ∷ left) points → bytes_eq line (codes "end") ≡ true → IsFault width height body (fault_at (height + 2) why.End)
 after_end width height body line next left points so end =
-    let count = lines_read width height body (line ∷ next ∷ left) points so in
     let all : List (List ℕ) = so.lines ++ line ∷ [] in
-    let long : length all ≡ height + 1 = length-append so.lines (line ∷ []) ∙ ap (λ (k : ℕ). k + 1) count in
-    let more = length-append all (next ∷ []) in
-    let front : IsFront width height all = inr (record { before = so.lines; rows = so.rows; each = so.each; count = so.count; spelled = ap (λ (l : List ℕ). so.lines ++ l ∷ []) (named line (codes "end") end) }) in
-    let two : height + 1 + 1 ≡ height + 2 = omega arith in
-    subst (λ (k : ℕ). IsFault width height body (fault_at k why.End)) two
-    (renumbered width height body (length all) (height + 1) why.End long
-    (wrong width height body all next left why.End front (so.spelled ∙ sym (append_assoc so.lines (line ∷ []) (next ∷ left))) (λ one. let within = front_within width height (all ++ next ∷ []) one in absurd (omega arith)) (end_reason height (length all) (omega arith))))
+    let long = length-append so.lines (line ∷ []) in
+    let count = lines_read width height body (line ∷ next ∷ left) points so in
+    let read : run (step width height) start all ≡ Ok (all_rows so.rows) =
+    run_on (step width height) start (rows_so_far so.rows) so.lines (line ∷ []) (rows_read width height height body (line ∷ next ∷ left) points so (omega arith))
+    ∙ goes_on width height (rows_so_far so.rows) (all_rows so.rows) line [] (takes_end width height so.rows line so.count end) in
+    stuck width height (height + 2) body all next left (all_rows so.rows) why.End (omega arith) read refl (so.spelled ∙ sym (append_assoc so.lines (line ∷ []) (next ∷ left)))
 
 pub late : (width height : ℕ) (body : List ℕ) (left : List (List ℕ)) (points : List (Option ℕ)) (fault : BitmapFault) → HasRead width height body left points → fault_after height left ≡ Some fault → IsFault width height body fault
 late width height body [] points fault so e = subst (IsFault width height body) (same_Some (fault_at (height + 1) why.End) fault e) (stopped width height height body points so (omega arith))
@@ -223,44 +297,24 @@ whole width height body left points so none = record {
 
 -- ---- a bitmap or a fault
 
-abbrev Either : ℕ → ℕ → List ℕ → Type 0
-Either width height body = ((b : Bitmap) × IsBody width height body b) ⊎ ((fault : BitmapFault) × IsFault width height body fault)
-
-at_end : (width height : ℕ) (body : List ℕ) (left : List (List ℕ)) (points : List (Option ℕ)) (o : Option BitmapFault) → HasRead width height body left points → fault_after height left ≡ o → Either width height body
-at_end width height body left points None so e = inl (bitmap_with width height points, whole width height body left points so e)
-at_end width height body left points (Some fault) so e = inr (fault, late width height body left points fault so e)
-
-at_line : (width height n : ℕ) (body line : List ℕ) (left : List (List ℕ)) (points : List (Option ℕ)) (o : Option (List (Option ℕ))) → HasRead width n body (line ∷ left) points → n < height → row_of width line ≡ o
-    → ((row : List (Option ℕ)) → HasRead width (n + 1) body left (points ++ row) → Either width height body) → Either width height body
-at_line width height n body line left points None so less e next = inr (fault_at (n + 1) why.Row, no_row width height n body line left points so less e)
-at_line width height n body line left points (Some row) so less e next = next row (row_read width n body line left points row so e)
-
-from_here : (width height n : ℕ) (body : List ℕ) (left : List (List ℕ)) (points : List (Option ℕ)) → HasRead width n body left points → n ≤ height → Either width height body
-from_here width height n body [] points so few = inr (fault_at (n + 1) why.End, stopped width height n body points so few)
-from_here width height n body (line ∷ left) points so few =
-    elim (cases_lt n height) [
-      | inl less ↦ at_line width height n body line left points (row_of width line) so less refl (λ row more. from_here width height (n + 1) body left (points ++ row) more (omega arith))
-      | inr all ↦
-          let same : n ≡ height = omega arith in
-          at_end width height body (line ∷ left) points (fault_after height (line ∷ left)) (subst (λ (k : ℕ). HasRead width k body (line ∷ left) points) same so) refl
-    ]
+body_of : (width height : ℕ) (body : List ℕ) (d : Draft) → Stands width height d (lines_of body) → why_cut (place_of d) ≡ None → (b : Bitmap) × IsBody width height body b
+body_of width height body (rows_so_far rows) was none = absurd cc
+body_of width height body (all_rows rows) was none =
+    (bitmap_with width height (joined rows), record { wide = refl; high = refl; lines = was.0; rows = rows; count = was.2; each = was.1; shown = refl; spelled = was.3 })
 
 pub either : (width height : ℕ) (body : List ℕ) → ((b : Bitmap) × IsBody width height body b) ⊎ ((fault : BitmapFault) × IsFault width height body fault)
-either width height body = from_here width height 0 body (lines_of body) [] (nothing_read width body) (omega arith)
+either width height body =
+    elim (lines.either (step width height) start place_of (IsFront width height) (WhyAt height) why_cut (reading width height) (lines_of body)) [
+      | inl all ↦ inl (body_of width height body all.0 (stands_after width height start all.0 [] (lines_of body) (tt, omega arith) all.1) all.2)
+      | inr fault ↦ inr (fault_at fault.0 fault.1, fault.2)
+    ]
 
-body_front : (width height : ℕ) (body : List ℕ) (b : Bitmap) → IsBody width height body b → AreAll width height (lines_of body)
+body_front : (width height : ℕ) (body : List ℕ) (b : Bitmap) → IsBody width height body b → IsFront width height (lines_of body) AfterEnd
 body_front width height body b is = record { before = is.lines; rows = is.rows; each = is.each; count = is.count; spelled = is.spelled }
 
-no_fault : (width height n : ℕ) (lines : List (List ℕ)) (reason : BitmapWhy) → AreAll width height lines → IsCut height lines n reason ⊎ IsWrong width height lines n reason → ⊥
-no_fault width height n lines reason all (inl cut) =
-    let long = all_lines width height lines all in
-    let count : n ≡ length lines = cut.0 in
-    let few : n ≤ height = cut.1 in
-    absurd (omega arith)
-no_fault width height n lines reason all (inr wrong) = wrong.1 (front_before width height (n + 1) lines (inr all))
-
 pub not_both : (width height : ℕ) (body : List ℕ) (b : Bitmap) (fault : BitmapFault) → IsBody width height body b → IsFault width height body fault → ⊥
-not_both width height body b fault is wrong = no_fault width height wrong.right (lines_of body) fault.why (body_front width height body b is) wrong.wrong
+not_both width height body b fault is wrong =
+    lines.not_both (step width height) start place_of (IsFront width height) (WhyAt height) why_cut (reading width height) (lines_of body) AfterEnd fault.line fault.why (body_front width height body b is) refl wrong
 
 -- ---- one of either
 
@@ -271,32 +325,7 @@ one_bitmap width height body a b is also =
     let points : a.points ≡ b.points = is.shown ∙ ap joined rows ∙ sym also.shown in
     ap (λ (w : ℕ). bitmap_with w a.height a.points) (is.wide ∙ sym also.wide) ∙ ap (λ (h : ℕ). bitmap_with b.width h a.points) (is.high ∙ sym also.high) ∙ ap (bitmap_with b.width b.height) points
 
--- a fault lies at most one line past the last
-within : (width height n : ℕ) (lines : List (List ℕ)) (reason : BitmapWhy) → IsCut height lines n reason ⊎ IsWrong width height lines n reason → n ≤ length lines
-within width height n lines reason (inl cut) = let count : n ≡ length lines = cut.0 in omega arith
-within width height n lines reason (inr wrong) = let less : n < length lines = wrong.0 in omega arith
-
-no_earlier : (width height n m : ℕ) (lines : List (List ℕ)) (reason : BitmapWhy) → IsCut height lines n reason ⊎ IsWrong width height lines n reason → n < m → m ≤ length lines → IsFront width height (take m lines) → ⊥
-no_earlier width height n m lines reason (inl cut) less inside front = let count : n ≡ length lines = cut.0 in absurd (omega arith)
-no_earlier width height n m lines reason (inr wrong) less inside front =
-    wrong.1 (subst (IsFront width height) (take-take (n + 1) m lines (omega arith)) (front_before width height (n + 1) (take m lines) front))
-
-same_reason : (width height n m : ℕ) (lines : List (List ℕ)) (reason also : BitmapWhy) → n ≡ m → IsCut height lines n reason ⊎ IsWrong width height lines n reason → IsCut height lines m also ⊎ IsWrong width height lines m also → reason ≡ also
-same_reason width height n m lines reason also same (inl cut) (inl cut_too) = cut.2 ∙ sym cut_too.2
-same_reason width height n m lines reason also same (inl cut) (inr wrong) = let count : n ≡ length lines = cut.0 in let less : m < length lines = wrong.0 in absurd (omega arith)
-same_reason width height n m lines reason also same (inr wrong) (inl cut) = let count : m ≡ length lines = cut.0 in let less : n < length lines = wrong.0 in absurd (omega arith)
-same_reason width height n m lines reason also same (inr wrong) (inr wrong_too) = wrong.2 ∙ ap (why_after height) same ∙ sym wrong_too.2
-
 pub one_fault : (width height : ℕ) (body : List ℕ) (a b : BitmapFault) → IsFault width height body a → IsFault width height body b → a ≡ b
 one_fault width height body a b is also =
-    let lines : List (List ℕ) = lines_of body in
-    elim (cases_order is.right also.right) [
-      | inl same ↦
-          let reason = same_reason width height is.right also.right lines a.why b.why same is.wrong also.wrong in
-          ap (λ (n : ℕ). fault_at n a.why) (is.counted ∙ ap (λ (n : ℕ). n + 1) same ∙ sym also.counted) ∙ ap (fault_at b.line) reason
-      | inr other ↦
-          elim other [
-            | inl less ↦ absurd (no_earlier width height is.right also.right lines a.why is.wrong less (within width height also.right lines b.why also.wrong) also.front)
-            | inr more ↦ absurd (no_earlier width height also.right is.right lines b.why also.wrong more (within width height is.right lines a.why is.wrong) is.front)
-          ]
-    ]
+    let same = lines.one_fault (step width height) start place_of (IsFront width height) (WhyAt height) why_cut (reading width height) (lines_of body) a.line b.line a.why b.why is also in
+    ap (λ (n : ℕ). fault_at n a.why) same.0 ∙ ap (fault_at b.line) same.1

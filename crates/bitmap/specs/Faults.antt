@@ -1,6 +1,7 @@
 -- The first fault of a body, by what the lines before it are.
-use Rattle.std.specs.Prelude.{◌≡◌, ◌⊎◌, ℕ, ◌+◌, ◌<◌, ◌≤◌, List, [], ◌∷◌, ◌++◌, length, take, Option, if◌then◌else◌, nat_lt, codes}
+use Rattle.std.specs.Prelude.{◌≡◌, ℕ, ◌≤◌, List, [], ◌∷◌, ◌++◌, length, Option, Some, None, if◌then◌else◌, nat_lt, codes}
 use Rattle.spelling.specs.Parts.{lines_of}
+use Rattle.spelling.specs.FirstFaults.{IsFirstFault}
 use Rattle.bitmap.specs.declared.fault.BitmapWhy.{BitmapWhy}
 use Rattle.bitmap.specs.declared.fault.BitmapWhy.TheVariants as why
 use Rattle.bitmap.specs.declared.fault.BitmapFault.{BitmapFault}
@@ -8,13 +9,19 @@ use Rattle.bitmap.specs.declared.fault.BitmapRefused.{BitmapRefused}
 use Rattle.bitmap.specs.declared.fault.BitmapRefused.TheVariants as refused
 use Rattle.bitmap.specs.Texts.{AreRows}
 
--- ---- what the first lines of a bitmap are
+-- ---- what the first lines of a bitmap are, by the place after them
 
--- rows, at most all of them
-pub record AreFirstRows (width height : ℕ) (lines : List (List ℕ)) : Type 0 where
+-- after so many rows, or after the line `end`
+pub data Place : Type 0 where
+  AfterRows : ℕ → Place
+  AfterEnd : Place
+
+-- so many rows, at most all of them
+pub record AreFirstRows (width height : ℕ) (lines : List (List ℕ)) (many : ℕ) : Type 0 where
   pub rows : List (List (Option ℕ))
   pub each : AreRows width lines rows
-  pub few : length rows ≤ height
+  pub count : length rows ≡ many
+  pub few : many ≤ height
 
 -- all rows, and the line `end`
 pub record AreAll (width height : ℕ) (lines : List (List ℕ)) : Type 0 where
@@ -24,32 +31,31 @@ pub record AreAll (width height : ℕ) (lines : List (List ℕ)) : Type 0 where
   pub count : length rows ≡ height
   pub spelled : lines ≡ before ++ codes "end" ∷ []
 
-abbrev pub IsFront : ℕ → ℕ → List (List ℕ) → Type 0
-IsFront width height lines = AreFirstRows width height lines ⊎ AreAll width height lines
+-- the lines are the first ones of a bitmap, and after them stands this place
+abbrev pub IsFront : ℕ → ℕ → List (List ℕ) → Place → Type 0
+IsFront width height lines (AfterRows many) = AreFirstRows width height lines many
+IsFront width height lines AfterEnd = AreAll width height lines
 
 -- ---- faults
 
--- what is wrong with a line after so many right ones: in the place of a row, or of the end
-abbrev pub why_after : ℕ → ℕ → BitmapWhy
-why_after height right = if nat_lt right height then why.Row else why.End
+-- what is wrong with a line that doesn't belong at a place: in the place of a row, or of the end
+abbrev pub why_at : ℕ → Place → BitmapWhy
+why_at height (AfterRows many) = if nat_lt many height then why.Row else why.End
+why_at height AfterEnd = why.End
 
--- the lines end before the line `end`
-abbrev pub IsCut : ℕ → List (List ℕ) → ℕ → BitmapWhy → Type 0
-IsCut height lines right reason = (right ≡ length lines) × (right ≤ height) × (reason ≡ why.End)
+-- what is wrong with the end of the lines at a place
+abbrev pub why_cut : Place → Option BitmapWhy
+why_cut (AfterRows many) = Some why.End
+why_cut AfterEnd = None
 
--- with one line more they are no first lines of a bitmap
-abbrev pub IsWrong : ℕ → ℕ → List (List ℕ) → ℕ → BitmapWhy → Type 0
-IsWrong width height lines right reason =
-    (right < length lines) × (IsFront width height (take (right + 1) lines) → ⊥)
-    × (reason ≡ why_after height right)
+-- the reason against a line at a place
+abbrev pub WhyAt : ℕ → Place → List ℕ → BitmapWhy → Type 0
+WhyAt height place line reason = reason ≡ why_at height place
 
--- so many lines are right, and the next one is wrong, or missing
-pub record IsFault (width height : ℕ) (body : List ℕ) (fault : BitmapFault) : Type 0 where
-  pub right : ℕ
-  pub counted : fault.line ≡ right + 1
-  pub front : IsFront width height (take right (lines_of body))
-  pub wrong : IsCut height (lines_of body) right fault.why
-      ⊎ IsWrong width height (lines_of body) right fault.why
+-- the longest front of a bitmap, and then a line that is wrong, or the end
+abbrev pub IsFault : ℕ → ℕ → List ℕ → BitmapFault → Type 0
+IsFault width height body fault =
+    IsFirstFault (IsFront width height) (WhyAt height) why_cut (lines_of body) fault.line fault.why
 
 -- a refusal tells the fault; of one for want of memory nothing is said
 abbrev pub IsRefused : ℕ → ℕ → List ℕ → BitmapRefused → Type 0

@@ -1,14 +1,18 @@
-//! The calls of the core, by whom they are made, and what they are answered. Plain data.
+//! The calls of the core, by whom they are made, and what they are answered: plain data. A call is
+//! written as a word and its fields, by one table.
 #![tactic(auto)]
 
 mod call;
 mod config;
 mod entry;
+pub mod laws;
 mod line;
 mod reply;
+mod word;
 
 pub use call::Call;
 pub use config::Config;
 pub use entry::Entry;
 pub use line::{Act, Line};
 pub use reply::{Refusal, Reply};
+pub use word::Word;

@@ -1,204 +1,122 @@
 -- The laws of bodies: each is a font's or has a fault, and not both, and it has one of either.
-use Rattle.std.proofs.Common.{◌≡◌, ◌≢◌, ℕ, ◌+◌, ◌-◌, ◌<◌, ◌≤◌, List, [], ◌∷◌, ◌++◌, length, take, drop, Option, Some, None, Result, Ok, Err, refl, sym, ap, subst, ◌∙◌, inl, inr, arith}
+use Rattle.std.proofs.Common.{◌≡◌, ℕ, ◌+◌, ◌≤◌, List, ◌∷◌, Option, Some, None, Result, Ok, Err, refl, sym, ap, subst, ◌∙◌, inl, inr}
 use Rattle.std.specs.Prelude.{◌⊎◌, MatchResult}
-use Rattle.std.proofs.lemmas.Bool.{cases_order}
-use Rattle.std.proofs.lemmas.List.{take_all, drop-drop, length-drop}
-use Rattle.std.proofs.Math.Seq.{take-add}
 use Rattle.spelling.specs.Parts.{lines_of}
-use Rattle.spelling.specs.Words.{◌>>=◌}
+use Rattle.spelling.specs.LineReading.{on_line, IsReading}
+use Rattle.spelling.proofs.CallerLemmas as lines
 use Rattle.glyph_font.specs.declared.place.Place.{Place}
 use Rattle.glyph_font.specs.declared.place.Place.TheVariants.{Between, Within, After}
 use Rattle.glyph_font.specs.declared.fault.FontWhy.{FontWhy}
-use Rattle.glyph_font.specs.declared.fault.FontWhy.TheVariants as why
 use Rattle.glyph_font.specs.declared.fault.FontFault.{FontFault}
 use Rattle.glyph_font.specs.declared.fault.FontRefused.{FontRefused}
 use Rattle.glyph_font.specs.declared.fault.FontRefused.TheVariants as refused
-use Rattle.glyph_font.specs.Fonts.{Glyph, Font}
-use Rattle.glyph_font.specs.Texts.{IsBody}
-use Rattle.glyph_font.specs.Faults.{IsFront, IsFault, IsRefused, IsCut, IsWrong, why_at}
-use Rattle.glyph_font.specs.Reading.{Draft, start, after_line, at_end, on_line, read_from, read_of, Says}
+use Rattle.glyph_font.specs.Fonts.{Glyph, Font, IsFont}
+use Rattle.glyph_font.specs.Texts.{font_lines, IsBody}
+use Rattle.glyph_font.specs.Faults.{IsFront, IsFault, IsRefused, WhyAt, why_at, why_cut}
+use Rattle.glyph_font.specs.Reading.{Draft, start, after_line, or_why, line_step, from_line, read_of, Says, SaysFont}
 use Rattle.glyph_font.proofs.DraftLaws.{StandsAt}
-use Rattle.glyph_font.proofs.LinesReadLemmas.{run, run_on, height_after, read_stands, front_read_of, ReadsAll, all_read, front_reads, first_read}
+use Rattle.glyph_font.proofs.LinesReadLemmas.{run, height_after, read_stands, front_read_of, ReadsAll, all_read, front_reads}
+
+-- ---- the step reads the fronts
+
+refused_by : (place : Place) (o : Option Draft) (reason : FontWhy) → or_why place o ≡ Err reason → reason ≡ why_at place
+refused_by place None reason is = cc
+refused_by place (Some d) reason is = absurd cc
+
+abbrev place_of : Draft → Place
+place_of d = d.place
+
+reading : (height : ℕ) → 1 ≤ height → height ≤ 32 → IsReading line_step (start height) place_of (IsFront height) WhyAt
+reading height some few = record {
+  sound = λ xs d is. front_read_of height d xs some few is;
+  complete = λ xs place front. let r = front_reads height xs place some front in (r.draft, r.read, r.place);
+  reasons = λ xs d line reason is wrong. refused_by d.place (after_line d line) reason wrong;
+  one_reason = λ xs place line r s front longer is also. is ∙ sym also;
+}
 
 -- ---- what reading says
 
-abbrev pub Describes : ℕ → List ℕ → Result Font FontFault → Type 0
-Describes height body (Ok font) = IsBody height body font
-Describes height body (Err fault) = IsFault height body fault
+uncut : (place : Place) → why_cut place ≡ None → place ≡ After
+uncut Between is = absurd cc
+uncut Within is = absurd cc
+uncut After is = refl
 
--- lines on from one that is known
-taken : (lines : List (List ℕ)) (n : ℕ) (line : List ℕ) (rest : List (List ℕ)) → drop n lines ≡ line ∷ rest → take (n + 1) lines ≡ take n lines ++ line ∷ []
-taken lines n line rest e = take-add n 1 lines ∙ ap (λ (ls : List (List ℕ)). take n lines ++ take 1 ls) e
-
-dropped : (lines : List (List ℕ)) (n : ℕ) (line : List ℕ) (rest : List (List ℕ)) → drop n lines ≡ line ∷ rest → drop (n + 1) lines ≡ rest
-dropped lines n line rest e = sym (drop-drop 1 n lines) ∙ ap (drop 1) e
-
--- what was read so far
-pub record SoFar (height : ℕ) (body : List ℕ) (n : ℕ) (d : Draft) : Type 0 where
-  pub some : 1 ≤ height
-  pub few : height ≤ 32
-  pub read : run (start height) (take n (lines_of body)) ≡ Some d
-
-cut : (height : ℕ) (body : List ℕ) (n : ℕ) (d : Draft) → SoFar height body n d → n ≡ length (lines_of body) → d.place ≢ After → IsFault height body (record { line = n + 1; why = why.End })
-cut height body n d so all unended = record {
-  right = n;
-  place = d.place;
-  counted = refl;
-  front = front_read_of height d (take n (lines_of body)) so.some so.few so.read;
-  wrong = inl (all, unended, refl);
-}
-
-none_is_some : (d : Draft) → None ≡ Some d → ⊥
-none_is_some d e = cc
-
-wrong : (height : ℕ) (body : List ℕ) (n : ℕ) (d : Draft) (line : List ℕ) (rest : List (List ℕ)) → SoFar height body n d → drop n (lines_of body) ≡ line ∷ rest → n < length (lines_of body) → after_line d line ≡ None → IsFault height body (record { line = n + 1; why = why_at d.place })
-wrong height body n d line rest so e less none =
-    let lines : List (List ℕ) = lines_of body in
-    let stuck : run (start height) (take (n + 1) lines) ≡ None =
-    ap (run (start height)) (taken lines n line rest e) ∙ run_on (start height) d (take n lines) (line ∷ []) so.read ∙ ap (λ (o : Option Draft). o >>= λ x. run x []) none in
-    record {
-      right = n;
-      place = d.place;
-      counted = refl;
-      front = front_read_of height d (take n lines) so.some so.few so.read;
-      wrong = inr (less, (λ other front. let r = front_reads height other (take (n + 1) lines) so.some front in none_is_some r.draft (sym stuck ∙ r.read)), refl);
-    }
-
-ended : (height : ℕ) (body : List ℕ) (n : ℕ) (d : Draft) → SoFar height body n d → n ≡ length (lines_of body) → d.place ≡ After → IsBody height body d.font
-ended height body n d so all after =
-    let lines : List (List ℕ) = lines_of body in
-    let stands : StandsAt After d (take n lines) = subst (λ (at : Place). StandsAt at d (take n lines)) after (read_stands height d (take n lines) so.some so.few so.read) in
+font_of : (height : ℕ) (body : List ℕ) (d : Draft) → 1 ≤ height → height ≤ 32 → run (start height) (lines_of body) ≡ Ok d → d.place ≡ After → IsBody height body d.font
+font_of height body d some few is after =
+    let all : List (List ℕ) = lines_of body in
+    let stands : StandsAt After d all = subst (λ (at : Place). StandsAt at d all) after (read_stands height d all some few is) in
     record {
       is = record { high = stands.high; not_too_high = stands.not_too_high; glyphs = stands.whole; rising = stands.keeps.0 };
-      high = height_after (start height) d (take n lines) so.read;
-      spelled = sym (take_all n lines (omega arith)) ∙ stands.spelled;
+      high = height_after (start height) d all is;
+      spelled = stands.spelled;
     }
 
-at_end_is : (height : ℕ) (body : List ℕ) (n : ℕ) (at : Place) (d : Draft) → d.place ≡ at → SoFar height body n d → n ≡ length (lines_of body) → Describes height body (at_end (n + 1) at d)
-at_end_is height body n Between d is so all = cut height body n d so all (λ after. absurd (cc (sym is ∙ after)))
-at_end_is height body n Within d is so all = cut height body n d so all (λ after. absurd (cc (sym is ∙ after)))
-at_end_is height body n After d is so all = ended height body n d so all is
+abbrev Says_of : ℕ → List ℕ → Result Draft (ℕ × FontWhy) → Type 0
+Says_of height body r = lines.Describes line_step (start height) place_of (IsFront height) WhyAt why_cut (lines_of body) r
 
-on_line_is : (height : ℕ) (body : List ℕ) (n : ℕ) (d : Draft) (line : List ℕ) (rest : List (List ℕ)) (o : Option Draft) (next : Draft → Result Font FontFault) → after_line d line ≡ o → SoFar height body n d → drop n (lines_of body) ≡ line ∷ rest → n < length (lines_of body)
-    → ((e : Draft) → SoFar height body (n + 1) e → Describes height body (next e)) → Describes height body (on_line (n + 1) d.place o next)
-on_line_is height body n d line rest None next is so e less then = wrong height body n d line rest so e less is
-on_line_is height body n d line rest (Some after) next is so e less then =
-    then after (record {
-      some = so.some;
-      few = so.few;
-      read = ap (run (start height)) (taken (lines_of body) n line rest e) ∙ run_on (start height) d (take n (lines_of body)) (line ∷ []) so.read ∙ ap (λ (o : Option Draft). o >>= λ x. run x []) is;
-    })
-
-reads : (height : ℕ) (body : List ℕ) (n : ℕ) (d : Draft) (rest : List (List ℕ)) → drop n (lines_of body) ≡ rest → n ≤ length (lines_of body) → SoFar height body n d → Describes height body (read_from (n + 1) d rest)
-reads height body n d [] e within so =
-    let long = length-drop n (lines_of body) in
-    let none : length (drop n (lines_of body)) ≡ 0 = ap length e in
-    at_end_is height body n d.place d refl so (omega arith)
-reads height body n d (line ∷ rest) e within so =
-    let long = length-drop n (lines_of body) in
-    let some = ap length e in
-    let less : n < length (lines_of body) = omega arith in
-    on_line_is height body n d line rest (after_line d line) (λ next. read_from (n + 1 + 1) next rest) refl so e less (λ next more. reads height body (n + 1) next rest (dropped (lines_of body) n line rest e) (omega arith) more)
-
-pub read_says : (height : ℕ) (body : List ℕ) → 1 ≤ height → height ≤ 32 → Describes height body (read_of height body)
+says : (height : ℕ) (body : List ℕ) → 1 ≤ height → height ≤ 32 → Says_of height body (read_of height body)
 unfolding read_of
-read_says height body some few = reads height body 0 (start height) (lines_of body) refl (omega arith) (record { some = some; few = few; read = refl })
-
--- a line more
-pub reads_wrong : (n : ℕ) (d : Draft) (line : List ℕ) (lines : List (List ℕ)) → after_line d line ≡ None → read_from n d (line ∷ lines) ≡ Err (record { line = n; why = why_at d.place })
-reads_wrong n d line lines is = ap (λ (o : Option Draft). on_line n d.place o (λ next. read_from (n + 1) next lines)) is
-
-pub reads_on : (n : ℕ) (d e : Draft) (line : List ℕ) (lines : List (List ℕ)) → after_line d line ≡ Some e → read_from n d (line ∷ lines) ≡ read_from (n + 1) e lines
-reads_on n d e line lines is = ap (λ (o : Option Draft). on_line n d.place o (λ next. read_from (n + 1) next lines)) is
+says height body some few = lines.read_says line_step (start height) place_of (IsFront height) WhyAt why_cut (reading height some few) (lines_of body)
 
 -- for `read`
-pub is_answer : (height : ℕ) (body : List ℕ) (r : Result Font FontRefused) → 1 ≤ height → height ≤ 32 → MatchResult r (λ font. read_of height body ≡ Ok font) (Says (read_of height body)) → MatchResult r (λ font. IsBody height body font) (IsRefused height body)
-is_answer height body (Ok font) some few is = subst (Describes height body) is (read_says height body some few)
+pub is_answer : (height : ℕ) (body : List ℕ) (r : Result Font FontRefused) → 1 ≤ height → height ≤ 32 → MatchResult r (SaysFont (read_of height body)) (Says (read_of height body)) → MatchResult r (λ font. IsBody height body font) (IsRefused height body)
+is_answer height body (Ok font) some few is =
+    let whole = subst (Says_of height body) is.1 (says height body some few) in
+    subst (IsBody height body) is.3 (font_of height body is.0 some few whole.0 is.2)
 is_answer height body (Err refused.Memory) some few is = tt
-is_answer height body (Err (refused.Fault fault)) some few is = subst (Describes height body) is (read_says height body some few)
+is_answer height body (Err (refused.Fault fault)) some few is = subst (Says_of height body) is (says height body some few)
 
 -- ---- a font or a fault
 
-either_of : (height : ℕ) (body : List ℕ) (r : Result Font FontFault) → Describes height body r → ((font : Font) × IsBody height body font) ⊎ ((fault : FontFault) × IsFault height body fault)
-either_of height body (Ok font) is = inl (font, is)
-either_of height body (Err fault) is = inr (fault, is)
-
 pub either : (height : ℕ) (body : List ℕ) → 1 ≤ height → height ≤ 32 → ((font : Font) × IsBody height body font) ⊎ ((fault : FontFault) × IsFault height body fault)
-either height body some few = either_of height body (read_of height body) (read_says height body some few)
+either height body some few =
+    elim (lines.either line_step (start height) place_of (IsFront height) WhyAt why_cut (reading height some few) (lines_of body)) [
+      | inl whole ↦ inl (whole.0.font, font_of height body whole.0 some few whole.1 (uncut whole.0.place whole.2))
+      | inr fault ↦ inr (record { line = fault.0; why = fault.1 }, fault.2)
+    ]
 
-body_read : (height : ℕ) (body : List ℕ) (font : Font) → IsBody height body font → ReadsAll font.height font.glyphs (lines_of body)
-body_read height body font is = all_read font.height font.glyphs (lines_of body) is.is.high is.is.glyphs is.is.rising is.spelled
-
-same_draft : (o : Option Draft) (d e : Draft) → o ≡ Some d → o ≡ Some e → d ≡ e
-same_draft o d e one other = cc
-
--- the lines after n of those that are read
-not_wrong : (height : ℕ) (lines : List (List ℕ)) (n m : ℕ) (d : Draft) → 1 ≤ height → height ≤ 32 → n < m → run (start height) (take m lines) ≡ Some d → ((other : Place) → IsFront height other (take (n + 1) lines) → ⊥) → ⊥
-not_wrong height lines n m d some few less read never =
-    let more : n + 1 + (m - (n + 1)) ≡ m = omega arith in
-    let parts = sym (ap (λ (k : ℕ). take k lines) more) ∙ take-add (n + 1) (m - (n + 1)) lines in
-    let first = first_read height d (take (n + 1) lines) (take (m - (n + 1)) (drop (n + 1) lines)) (ap (run (start height)) (sym parts) ∙ read) in
-    never first.0.place (front_read_of height first.0 (take (n + 1) lines) some few first.1)
-
-no_fault : (height : ℕ) (lines : List (List ℕ)) (n : ℕ) (at : Place) (reason : FontWhy) (d : Draft) → 1 ≤ height → height ≤ 32 → run (start height) lines ≡ Some d → d.place ≡ After → IsFront height at (take n lines) → IsCut lines n at reason ⊎ IsWrong height lines n at reason → ⊥
-no_fault height lines n at reason d some few read after front (inl cut) =
-    let r = front_reads height at (take n lines) some front in
-    let all : n ≡ length lines = cut.0 in
-    let same = same_draft (run (start height) lines) d r.draft read (sym (ap (run (start height)) (take_all n lines (omega arith))) ∙ r.read) in
-    cut.1 (sym r.place ∙ ap (λ (x : Draft). x.place) (sym same) ∙ after)
-no_fault height lines n at reason d some few read after front (inr wrong) =
-    not_wrong height lines n (length lines) d some few wrong.0 (ap (run (start height)) (take_all (length lines) lines (omega arith)) ∙ read) wrong.1
+-- a font's lines are a front, after `end`
+front_of : (height : ℕ) (body : List ℕ) (font : Font) → IsBody height body font → IsFront height (lines_of body) After
+front_of height body font is = subst (λ (h : ℕ). IsFront h (lines_of body) After) is.high (record { glyphs = font.glyphs; whole = is.is.glyphs; rising = is.is.rising; spelled = is.spelled })
 
 pub not_both : (height : ℕ) (body : List ℕ) (font : Font) (fault : FontFault) → IsBody height body font → IsFault height body fault → ⊥
 not_both height body font fault is wrong =
-    let r = subst (λ (h : ℕ). ReadsAll h font.glyphs (lines_of body)) is.high (body_read height body font is) in
-    no_fault height (lines_of body) wrong.right wrong.place fault.why r.draft (subst (λ (h : ℕ). 1 ≤ h) is.high is.is.high) (subst (λ (h : ℕ). h ≤ 32) is.high is.is.not_too_high) r.read r.place wrong.front wrong.wrong
+    let some = subst (λ (h : ℕ). 1 ≤ h) is.high is.is.high in
+    let few = subst (λ (h : ℕ). h ≤ 32) is.high is.is.not_too_high in
+    lines.not_both line_step (start height) place_of (IsFront height) WhyAt why_cut (reading height some few) (lines_of body) After fault.line fault.why (front_of height body font is) refl wrong
 
 -- ---- one of either
+
+same_draft : (o : Result Draft FontWhy) (d e : Draft) → o ≡ Ok d → o ≡ Ok e → d ≡ e
+same_draft o d e one other = cc
 
 abbrev font_with : ℕ → List Glyph → Font
 font_with height glyphs = record { height = height; glyphs = glyphs }
 
-pub one_font : (height : ℕ) (body : List ℕ) (a b : Font) → IsBody height body a → IsBody height body b → a ≡ b
-one_font height body a b is also =
-    let r = subst (λ (h : ℕ). ReadsAll h a.glyphs (lines_of body)) is.high (body_read height body a is) in
-    let s = subst (λ (h : ℕ). ReadsAll h b.glyphs (lines_of body)) also.high (body_read height body b also) in
-    let same = same_draft (run (start height) (lines_of body)) r.draft s.draft r.read s.read in
+-- a font's lines are no other font's of that height
+pub one_font_lines : (height : ℕ) (lines : List (List ℕ)) (a b : Font) → IsFont a → a.height ≡ height → lines ≡ font_lines a → IsFont b → b.height ≡ height → lines ≡ font_lines b → a ≡ b
+one_font_lines height lines a b is high spelled also also_high also_spelled =
+    let r = subst (λ (h : ℕ). ReadsAll h a.glyphs lines) high (all_read a.height a.glyphs lines is.high is.glyphs is.rising spelled) in
+    let s = subst (λ (h : ℕ). ReadsAll h b.glyphs lines) also_high (all_read b.height b.glyphs lines also.high also.glyphs also.rising also_spelled) in
+    let same = same_draft (run (start height) lines) r.draft s.draft r.read s.read in
     let glyphs : a.glyphs ≡ b.glyphs = ap (λ (f : Font). f.glyphs) (sym r.font ∙ ap (λ (d : Draft). d.font) same ∙ s.font) in
-    ap (λ (h : ℕ). font_with h a.glyphs) (is.high ∙ sym also.high) ∙ ap (font_with b.height) glyphs
+    ap (λ (h : ℕ). font_with h a.glyphs) (high ∙ sym also_high) ∙ ap (font_with b.height) glyphs
 
--- a fault lies at most one line past the last
-within : (height : ℕ) (lines : List (List ℕ)) (n : ℕ) (at : Place) (reason : FontWhy) → IsCut lines n at reason ⊎ IsWrong height lines n at reason → n ≤ length lines
-within height lines n at reason (inl cut) = let all : n ≡ length lines = cut.0 in omega arith
-within height lines n at reason (inr wrong) = let less : n < length lines = wrong.0 in omega arith
-
-no_earlier : (height : ℕ) (lines : List (List ℕ)) (n m : ℕ) (at : Place) (reason : FontWhy) (d : Draft) → 1 ≤ height → height ≤ 32 → IsCut lines n at reason ⊎ IsWrong height lines n at reason → n < m → m ≤ length lines → run (start height) (take m lines) ≡ Some d → ⊥
-no_earlier height lines n m at reason d some few (inl cut) less inside read = let all : n ≡ length lines = cut.0 in absurd (omega arith)
-no_earlier height lines n m at reason d some few (inr wrong) less inside read = not_wrong height lines n m d some few less read wrong.1
-
-same_reason : (height : ℕ) (lines : List (List ℕ)) (n m : ℕ) (at other : Place) (reason also : FontWhy) → n ≡ m → at ≡ other → IsCut lines n at reason ⊎ IsWrong height lines n at reason → IsCut lines m other also ⊎ IsWrong height lines m other also → reason ≡ also
-same_reason height lines n m at other reason also same place (inl cut) (inl cut_too) = cut.2 ∙ sym cut_too.2
-same_reason height lines n m at other reason also same place (inl cut) (inr wrong) = let all : n ≡ length lines = cut.0 in let less : m < length lines = wrong.0 in absurd (omega arith)
-same_reason height lines n m at other reason also same place (inr wrong) (inl cut) = let all : m ≡ length lines = cut.0 in let less : n < length lines = wrong.0 in absurd (omega arith)
-same_reason height lines n m at other reason also same place (inr wrong) (inr wrong_too) = wrong.2 ∙ ap why_at place ∙ sym wrong_too.2
+pub one_font : (height : ℕ) (body : List ℕ) (a b : Font) → IsBody height body a → IsBody height body b → a ≡ b
+one_font height body a b is also = one_font_lines height (lines_of body) a b is.is is.high is.spelled also.is also.high also.spelled
 
 abbrev fault_at : ℕ → FontWhy → FontFault
 fault_at line reason = record { line = line; why = reason }
 
 pub one_fault : (height : ℕ) (body : List ℕ) (a b : FontFault) → 1 ≤ height → height ≤ 32 → IsFault height body a → IsFault height body b → a ≡ b
 one_fault height body a b some few is also =
-    let lines : List (List ℕ) = lines_of body in
-    let r = front_reads height is.place (take is.right lines) some is.front in
-    let s = front_reads height also.place (take also.right lines) some also.front in
-    elim (cases_order is.right also.right) [
-      | inl same ↦
-          let drafts = same_draft (run (start height) (take is.right lines)) r.draft s.draft r.read (ap (λ (k : ℕ). run (start height) (take k lines)) same ∙ s.read) in
-          let place : is.place ≡ also.place = sym r.place ∙ ap (λ (d : Draft). d.place) drafts ∙ s.place in
-          let reason = same_reason height lines is.right also.right is.place also.place a.why b.why same place is.wrong also.wrong in
-          ap (λ (n : ℕ). fault_at n a.why) (is.counted ∙ ap (λ (n : ℕ). n + 1) same ∙ sym also.counted) ∙ ap (fault_at b.line) reason
-      | inr other ↦
-          elim other [
-            | inl less ↦ absurd (no_earlier height lines is.right also.right is.place a.why s.draft some few is.wrong less (within height lines also.right also.place b.why also.wrong) s.read)
-            | inr more ↦ absurd (no_earlier height lines also.right is.right also.place b.why r.draft some few also.wrong more (within height lines is.right is.place a.why is.wrong) r.read)
-          ]
-    ]
+    let same = lines.one_fault line_step (start height) place_of (IsFront height) WhyAt why_cut (reading height some few) (lines_of body) a.line b.line a.why b.why is also in
+    ap (λ (n : ℕ). fault_at n a.why) same.0 ∙ ap (fault_at b.line) same.1
+
+-- ---- for the loop
+
+pub reads_wrong : (n : ℕ) (d : Draft) (line : List ℕ) (lines : List (List ℕ)) → after_line d line ≡ None → from_line n d (line ∷ lines) ≡ Err (n, why_at d.place)
+reads_wrong n d line lines is = ap (λ (o : Option Draft). on_line n (or_why d.place o) (λ next. from_line (n + 1) next lines)) is
+
+pub reads_on : (n : ℕ) (d e : Draft) (line : List ℕ) (lines : List (List ℕ)) → after_line d line ≡ Some e → from_line n d (line ∷ lines) ≡ from_line (n + 1) e lines
+reads_on n d e line lines is = ap (λ (o : Option Draft). on_line n (or_why d.place o) (λ next. from_line (n + 1) next lines)) is

@@ -1,63 +1,66 @@
 -- The first lines of a font are read, and what is read are first lines of a font.
-use Rattle.std.proofs.Common.{◌≡◌, ℕ, ◌+◌, ◌<◌, ◌≤◌, Bool, List, [], ◌∷◌, ◌++◌, length, map, Option, Some, None, refl, sym, ap, subst, ◌∙◌, arith, append_assoc}
+use Rattle.std.proofs.Common.{◌≡◌, ℕ, ◌+◌, ◌<◌, ◌≤◌, Bool, List, [], ◌∷◌, ◌++◌, length, map, Option, Some, None, Result, Ok, refl, sym, ap, subst, ◌∙◌, arith, append_assoc}
 use Rattle.std.specs.Prelude.{codes}
 use Rattle.std.specs.List.{AllByRecursion}
 use Rattle.std.proofs.lemmas.List.{append-nil, length-append}
 use Rattle.std.proofs.lemmas.List.Concat.{flat_map-append}
-use Rattle.spelling.specs.Words.{◌>>=◌}
-use Rattle.spelling.proofs.CallerLemmas.{bind_some}
+use Rattle.spelling.specs.LineReading.{on}
+use Rattle.spelling.specs.LineReading.{run as run_lines}
+use Rattle.spelling.proofs.CallerLemmas.{on_ok, run_on}
+use Rattle.glyph_font.specs.declared.fault.FontWhy.{FontWhy}
 use Rattle.glyph_font.specs.declared.place.Place.{Place}
 use Rattle.glyph_font.specs.declared.place.Place.TheVariants.{Between, Within, After}
 use Rattle.glyph_font.specs.Fonts.{Glyph, Font, IsGlyph, IsRising}
 use Rattle.glyph_font.specs.Texts.{row_text, head_text, glyph_lines, lines_of_glyphs}
 use Rattle.glyph_font.specs.Faults.{AreRows, IsFront}
-use Rattle.glyph_font.specs.Reading.{Draft, start, begun, grown, with_glyph, with_row, after_head, after_row, after_at, after_line, least_after}
+use Rattle.glyph_font.specs.Reading.{Draft, start, begun, grown, with_glyph, with_row, after_head, after_row, after_at, after_line, or_why, line_step, least_after}
 use Rattle.glyph_font.proofs.LineLaws.{IsHead, head_again, row_again}
 use Rattle.glyph_font.proofs.DraftLaws.{StandsAt, Stands, start_stands, step, height_step, settled_whole, settled_lacks, rising_less}
 
 -- ---- several lines
 
--- the draft after these lines
-abbrev pub run : Draft → List (List ℕ) → Option Draft
-run d [] = Some d
-run d (line ∷ lines) = after_line d line >>= λ next. run next lines
+abbrev fine : Draft → Result Draft FontWhy
+fine d = Ok d
 
-after_first : (o : Option Draft) (f g : Draft → Option Draft) (h : Draft → Option Draft) → ((e : Draft) → f e ≡ (g e >>= h)) → (o >>= f) ≡ ((o >>= g) >>= h)
-after_first None f g h same = refl
-after_first (Some e) f g h same = same e
+-- what these lines say after a draft
+abbrev pub run : Draft → List (List ℕ) → Result Draft FontWhy
+run d lines = run_lines line_step d lines
 
-pub run-append : (d : Draft) (xs ys : List (List ℕ)) → run d (xs ++ ys) ≡ (run d xs >>= λ e. run e ys)
-run-append d [] ys = refl
-run-append d (line ∷ xs) ys = after_first (after_line d line) (λ e. run e (xs ++ ys)) (λ e. run e xs) (λ e. run e ys) (λ e. run-append e xs ys)
+steps : (place : Place) (o : Option Draft) (e : Draft) → o ≡ Some e → or_why place o ≡ Ok e
+steps place o e is = ap (or_why place) is
 
--- on from lines that were read
-pub run_on : (d e : Draft) (xs ys : List (List ℕ)) → run d xs ≡ Some e → run d (xs ++ ys) ≡ run e ys
-run_on d e xs ys is = run-append d xs ys ∙ ap (λ (o : Option Draft). o >>= λ e. run e ys) is
+pub stepped : (place : Place) (o : Option Draft) (e : Draft) → or_why place o ≡ Ok e → o ≡ Some e
+stepped place None e is = absurd cc
+stepped place (Some d) e is = cc
 
-pub stands_after : (d e : Draft) (front lines : List (List ℕ)) → Stands d front → run d lines ≡ Some e → Stands e (front ++ lines)
+-- after a line
+goes_on : (d e : Draft) (line : List ℕ) (lines : List (List ℕ)) → after_line d line ≡ Some e → run d (line ∷ lines) ≡ run e lines
+goes_on d e line lines is = ap (λ (o : Result Draft FontWhy). on o (λ next. run next lines)) (steps d.place (after_line d line) e is)
+
+pub stands_after : (d e : Draft) (front lines : List (List ℕ)) → Stands d front → run d lines ≡ Ok e → Stands e (front ++ lines)
 stands_after d e front [] was is = let same : d ≡ e = cc in subst (Stands e) (sym (append-nil front)) (subst (λ (x : Draft). Stands x front) same was)
 stands_after d e front (line ∷ lines) was is =
-    let next = bind_some (after_line d line) (λ next. run next lines) e is in
-    subst (Stands e) (append_assoc front (line ∷ []) lines) (stands_after next.0 e (front ++ line ∷ []) lines (step d next.0 front line was next.1) next.2)
+    let next = on_ok (line_step d line) (λ next. run next lines) e is in
+    subst (Stands e) (append_assoc front (line ∷ []) lines) (stands_after next.0 e (front ++ line ∷ []) lines (step d next.0 front line was (stepped d.place (after_line d line) next.0 next.1)) next.2)
 
 -- ---- what was read
 
-front_at : (at : Place) (d : Draft) (front : List (List ℕ)) → StandsAt at d front → IsFront d.font.height at front
+front_at : (at : Place) (d : Draft) (front : List (List ℕ)) → StandsAt at d front → IsFront d.font.height front at
 front_at Between d front was = record { glyphs = d.font.glyphs; whole = was.whole; rising = was.keeps.0; spelled = was.spelled }
 front_at Within d front was = record { glyphs = d.font.glyphs; last = d.last; whole = was.whole; begun = was.keeps.0; lacks = was.keeps.1; rising = was.keeps.2; spelled = was.spelled }
 front_at After d front was = record { glyphs = d.font.glyphs; whole = was.whole; rising = was.keeps.0; spelled = was.spelled }
 
-pub height_after : (d e : Draft) (lines : List (List ℕ)) → run d lines ≡ Some e → e.font.height ≡ d.font.height
+pub height_after : (d e : Draft) (lines : List (List ℕ)) → run d lines ≡ Ok e → e.font.height ≡ d.font.height
 height_after d e [] is = let same : d ≡ e = cc in ap (λ (x : Draft). x.font.height) (sym same)
 height_after d e (line ∷ lines) is =
-    let next = bind_some (after_line d line) (λ next. run next lines) e is in
-    height_after next.0 e lines next.2 ∙ height_step d next.0 line next.1
+    let next = on_ok (line_step d line) (λ next. run next lines) e is in
+    height_after next.0 e lines next.2 ∙ height_step d next.0 line (stepped d.place (after_line d line) next.0 next.1)
 
-pub read_stands : (height : ℕ) (d : Draft) (lines : List (List ℕ)) → 1 ≤ height → height ≤ 32 → run (start height) lines ≡ Some d → Stands d lines
+pub read_stands : (height : ℕ) (d : Draft) (lines : List (List ℕ)) → 1 ≤ height → height ≤ 32 → run (start height) lines ≡ Ok d → Stands d lines
 read_stands height d lines some few is = stands_after (start height) d [] lines (start_stands height some few) is
 
-pub front_read_of : (height : ℕ) (d : Draft) (lines : List (List ℕ)) → 1 ≤ height → height ≤ 32 → run (start height) lines ≡ Some d → IsFront height d.place lines
-front_read_of height d lines some few is = subst (λ (h : ℕ). IsFront h d.place lines) (height_after (start height) d lines is) (front_at d.place d lines (read_stands height d lines some few is))
+pub front_read_of : (height : ℕ) (d : Draft) (lines : List (List ℕ)) → 1 ≤ height → height ≤ 32 → run (start height) lines ≡ Ok d → IsFront height lines d.place
+front_read_of height d lines some few is = subst (λ (h : ℕ). IsFront h lines d.place) (height_after (start height) d lines is) (front_at d.place d lines (read_stands height d lines some few is))
 
 -- ---- what is read
 
@@ -76,14 +79,14 @@ more_rows : (d : Draft) (row : List Bool) (rows : List (List Bool)) → with_row
 more_rows d row rows = ap (λ (all : List (List Bool)). record d { last = record d.last { rows = all } }) (append_assoc d.last.rows (row ∷ []) rows)
 
 -- rows that don't make the glyph whole
-rows_read : (d : Draft) (rows : List (List Bool)) → d.place ≡ Within → AllByRecursion (λ row. length row ≡ d.last.width) rows → length d.last.rows + length rows < d.font.height → run d (map row_text rows) ≡ Some (with_rows d rows)
-rows_read d [] within wide less = ap (λ (all : List (List Bool)). Some (record d { last = record d.last { rows = all } })) (sym (append-nil d.last.rows))
+rows_read : (d : Draft) (rows : List (List Bool)) → d.place ≡ Within → AllByRecursion (λ row. length row ≡ d.last.width) rows → length d.last.rows + length rows < d.font.height → run d (map row_text rows) ≡ Ok (with_rows d rows)
+rows_read d [] within wide less = ap (λ (all : List (List Bool)). fine (record d { last = record d.last { rows = all } })) (sym (append-nil d.last.rows))
 rows_read d (row ∷ rows) within wide less =
     let next : Draft = record d { last = grown d.last row } in
     let more = length-append d.last.rows (row ∷ []) in
     let lacks : length next.last.rows < d.font.height = omega arith in
-    ap (λ (o : Option Draft). o >>= λ e. run e (map row_text rows)) (row_read d row within wide.0 ∙ ap (λ (e : Draft). Some e) (settled_lacks next lacks)) ∙ rows_read next rows within wide.1 (omega arith)
-    ∙ ap (λ (e : Draft). Some e) (more_rows d row rows)
+    goes_on d next (row_text row) (map row_text rows) (row_read d row within wide.0 ∙ ap (λ (e : Draft). Some e) (settled_lacks next lacks)) ∙ rows_read next rows within wide.1 (omega arith)
+    ∙ ap fine (more_rows d row rows)
 
 -- rows that do
 abbrev with_last : Draft → List (List Bool) → Draft
@@ -93,18 +96,18 @@ more_last : (d : Draft) (row : List Bool) (rows : List (List Bool)) → with_las
 more_last d row rows =
     ap (λ (all : List (List Bool)). record d { place = Between; font = with_glyph d.font (record d.last { rows = all }); last = record d.last { rows = all } }) (append_assoc d.last.rows (row ∷ []) rows)
 
-last_read : (d : Draft) (row : List Bool) (rows : List (List Bool)) → d.place ≡ Within → AllByRecursion (λ row. length row ≡ d.last.width) (row ∷ rows) → length d.last.rows + length (row ∷ rows) ≡ d.font.height → run d (map row_text (row ∷ rows)) ≡ Some (with_last d (row ∷ rows))
+last_read : (d : Draft) (row : List Bool) (rows : List (List Bool)) → d.place ≡ Within → AllByRecursion (λ row. length row ≡ d.last.width) (row ∷ rows) → length d.last.rows + length (row ∷ rows) ≡ d.font.height → run d (map row_text (row ∷ rows)) ≡ Ok (with_last d (row ∷ rows))
 last_read d row [] within wide all =
     let next : Draft = record d { last = grown d.last row } in
     let more = length-append d.last.rows (row ∷ []) in
     let whole : length next.last.rows ≡ d.font.height = omega arith in
-    ap (λ (o : Option Draft). o >>= λ e. run e []) (row_read d row within wide.0 ∙ ap (λ (e : Draft). Some e) (settled_whole next whole))
+    goes_on d (with_last d (row ∷ [])) (row_text row) [] (row_read d row within wide.0 ∙ ap (λ (e : Draft). Some e) (settled_whole next whole))
 last_read d row (second ∷ rows) within wide all =
     let next : Draft = record d { last = grown d.last row } in
     let more = length-append d.last.rows (row ∷ []) in
     let lacks : length next.last.rows < d.font.height = omega arith in
-    ap (λ (o : Option Draft). o >>= λ e. run e (map row_text (second ∷ rows))) (row_read d row within wide.0 ∙ ap (λ (e : Draft). Some e) (settled_lacks next lacks))
-    ∙ last_read next second rows within wide.1 (omega arith) ∙ ap (λ (e : Draft). Some e) (more_last d row (second ∷ rows))
+    goes_on d next (row_text row) (map row_text (second ∷ rows)) (row_read d row within wide.0 ∙ ap (λ (e : Draft). Some e) (settled_lacks next lacks))
+    ∙ last_read next second rows within wide.1 (omega arith) ∙ ap fine (more_last d row (second ∷ rows))
 
 -- a glyph's first line
 head_read : (d : Draft) (head : ℕ × ℕ) → d.place ≡ Between → IsHead d.least head → after_line d (head_text head.0 head.1) ≡ Some (begun d head)
@@ -117,21 +120,21 @@ is_head n least g is from until = record { from = from; until = until; wide = is
 abbrev after_glyph : Draft → Glyph → Draft
 after_glyph d g = record d { place = Between; least = g.code + 1; font = with_glyph d.font g; last = g }
 
-glyph_of_rows : (d : Draft) (g : Glyph) (rows : List (List Bool)) → g.rows ≡ rows → d.place ≡ Between → 1 ≤ d.font.height → IsGlyph d.font.height g → d.least ≤ g.code → g.code ≤ 126 → run d (glyph_lines g) ≡ Some (after_glyph d g)
+glyph_of_rows : (d : Draft) (g : Glyph) (rows : List (List Bool)) → g.rows ≡ rows → d.place ≡ Between → 1 ≤ d.font.height → IsGlyph d.font.height g → d.least ≤ g.code → g.code ≤ 126 → run d (glyph_lines g) ≡ Ok (after_glyph d g)
 glyph_of_rows d g [] rows between some is from until = let none = ap length rows in let high = is.high in absurd (omega arith)
 glyph_of_rows d g (row ∷ more) rows between some is from until =
     let head : ℕ × ℕ = (g.code, g.width) in
     let next : Draft = begun d head in
     let count = ap length rows in
     let high = is.high in
-    ap (λ (o : Option Draft). o >>= λ e. run e (map row_text g.rows)) (head_read d head between (is_head d.font.height d.least g is from until)) ∙ ap (λ (all : List (List Bool)). run next (map row_text all)) rows
+    goes_on d next (head_text g.code g.width) (map row_text g.rows) (head_read d head between (is_head d.font.height d.least g is from until)) ∙ ap (λ (all : List (List Bool)). run next (map row_text all)) rows
     ∙ last_read next row more refl (subst (AllByRecursion (λ row. length row ≡ g.width)) rows is.even) (omega arith)
-    ∙ ap (λ (all : List (List Bool)). Some (record d { place = Between; least = g.code + 1; font = with_glyph d.font (record g { rows = all }); last = record g { rows = all } })) (sym rows)
+    ∙ ap (λ (all : List (List Bool)). fine (record d { place = Between; least = g.code + 1; font = with_glyph d.font (record g { rows = all }); last = record g { rows = all } })) (sym rows)
 
 -- what was read of glyphs
 pub record IsRead (d : Draft) (gs : List Glyph) : Type 0 where
   pub after : Draft
-  pub read : run d (lines_of_glyphs gs) ≡ Some after
+  pub read : run d (lines_of_glyphs gs) ≡ Ok after
   pub between : after.place ≡ Between
   pub font : after.font ≡ record d.font { glyphs = d.font.glyphs ++ gs }
   pub least : after.least ≡ least_after d.least gs
@@ -149,7 +152,7 @@ glyphs_read d (g ∷ gs) between some whole rising =
     let more = glyphs_read next gs refl some whole.1 rising.2 in
     record {
       after = more.after;
-      read = run_on d next (glyph_lines g) (lines_of_glyphs gs) (glyph_of_rows d g g.rows refl between some whole.0 rising.0 rising.1) ∙ more.read;
+      read = run_on line_step d next (glyph_lines g) (lines_of_glyphs gs) (glyph_of_rows d g g.rows refl between some whole.0 rising.0 rising.1) ∙ more.read;
       between = more.between;
       font = more.font ∙ ap (λ (all : List Glyph). record d.font { glyphs = all }) (append_assoc d.font.glyphs (g ∷ []) gs);
       least = more.least;
@@ -163,13 +166,13 @@ end_read d between = at_place Between d (codes "end") between
 -- a draft that has read these lines, and stands at that place
 pub record Reads (height : ℕ) (at : Place) (lines : List (List ℕ)) : Type 0 where
   pub draft : Draft
-  pub read : run (start height) lines ≡ Some draft
+  pub read : run (start height) lines ≡ Ok draft
   pub place : draft.place ≡ at
 
 -- a font's lines, to the end
 pub record ReadsAll (height : ℕ) (glyphs : List Glyph) (lines : List (List ℕ)) : Type 0 where
   pub draft : Draft
-  pub read : run (start height) lines ≡ Some draft
+  pub read : run (start height) lines ≡ Ok draft
   pub place : draft.place ≡ After
   pub font : draft.font ≡ record { height = height; glyphs = glyphs }
 
@@ -178,7 +181,7 @@ all_read height glyphs lines some whole rising spelled =
     let r = glyphs_read (start height) glyphs refl some whole rising in
     record {
       draft = record r.after { place = After };
-      read = ap (run (start height)) spelled ∙ run_on (start height) r.after (lines_of_glyphs glyphs) (codes "end" ∷ []) r.read ∙ ap (λ (o : Option Draft). o >>= λ e. run e []) (end_read r.after r.between);
+      read = ap (run (start height)) spelled ∙ run_on line_step (start height) r.after (lines_of_glyphs glyphs) (codes "end" ∷ []) r.read ∙ goes_on r.after (record r.after { place = After }) (codes "end") [] (end_read r.after r.between);
       place = refl;
       font = r.font;
     }
@@ -196,20 +199,16 @@ rows_front height lines some front =
     let head = head_read r.after (g.code, g.width) r.between (is_head (length g.rows) r.after.least g front.begun (omega arith) parts.2) in
     record {
       draft = with_rows next g.rows;
-      read = ap (run (start height)) (front.spelled ∙ flat_map-append glyph_lines front.glyphs (g ∷ []) ∙ ap (λ (ls : List (List ℕ)). lines_of_glyphs front.glyphs ++ ls) (append-nil (glyph_lines g))) ∙ run_on (start height) r.after (lines_of_glyphs front.glyphs) (glyph_lines g) r.read
-          ∙ ap (λ (o : Option Draft). o >>= λ e. run e (map row_text g.rows)) head ∙ rows_read next g.rows refl front.begun.even (omega arith);
+      read = ap (run (start height)) (front.spelled ∙ flat_map-append glyph_lines front.glyphs (g ∷ []) ∙ ap (λ (ls : List (List ℕ)). lines_of_glyphs front.glyphs ++ ls) (append-nil (glyph_lines g))) ∙ run_on line_step (start height) r.after (lines_of_glyphs front.glyphs) (glyph_lines g) r.read
+          ∙ goes_on r.after next (head_text g.code g.width) (map row_text g.rows) head ∙ rows_read next g.rows refl front.begun.even (omega arith);
       place = refl;
     }
 
-pub front_reads : (height : ℕ) (at : Place) (lines : List (List ℕ)) → 1 ≤ height → IsFront height at lines → Reads height at lines
-front_reads height Between lines some front =
+pub front_reads : (height : ℕ) (lines : List (List ℕ)) (at : Place) → 1 ≤ height → IsFront height lines at → Reads height at lines
+front_reads height lines Between some front =
     let r = glyphs_read (start height) front.glyphs refl some front.whole front.rising in
     record { draft = r.after; read = ap (run (start height)) front.spelled ∙ r.read; place = r.between }
-front_reads height Within lines some front = rows_front height lines some front
-front_reads height After lines some front =
+front_reads height lines Within some front = rows_front height lines some front
+front_reads height lines After some front =
     let r = all_read height front.glyphs lines some front.whole front.rising front.spelled in
     record { draft = r.draft; read = r.read; place = r.place }
-
--- the first lines of what is read are read
-pub first_read : (height : ℕ) (d : Draft) (xs ys : List (List ℕ)) → run (start height) (xs ++ ys) ≡ Some d → (e : Draft) × (run (start height) xs ≡ Some e)
-first_read height d xs ys is = let b = bind_some (run (start height) xs) (λ e. run e ys) d (sym (run-append (start height) xs ys) ∙ is) in (b.0, b.1)

@@ -1,7 +1,8 @@
 -- The first fault of a body, by what the lines before it are.
-use Rattle.std.specs.Prelude.{◌≡◌, ◌≢◌, ◌⊎◌, ℕ, ◌+◌, ◌<◌, List, [], ◌∷◌, ◌++◌, length, take, codes}
+use Rattle.std.specs.Prelude.{◌≡◌, ℕ, ◌<◌, List, [], ◌∷◌, ◌++◌, length, Option, Some, None, codes}
 use Rattle.std.specs.List.{AllByRecursion}
 use Rattle.spelling.specs.Parts.{lines_of}
+use Rattle.spelling.specs.FirstFaults.{IsFirstFault}
 use Rattle.glyph_font.specs.declared.place.Place.{Place}
 use Rattle.glyph_font.specs.declared.place.Place.TheVariants.{Between, Within, After}
 use Rattle.glyph_font.specs.declared.fault.FontWhy.{FontWhy}
@@ -40,10 +41,10 @@ pub record AreAll (height : ℕ) (lines : List (List ℕ)) : Type 0 where
 
 -- the lines are the first ones of a font, and after them stands this place: between glyphs, within
 -- one, or after `end`
-abbrev pub IsFront : ℕ → Place → List (List ℕ) → Type 0
-IsFront height Between lines = AreGlyphs height lines
-IsFront height Within lines = AreRows height lines
-IsFront height After lines = AreAll height lines
+abbrev pub IsFront : ℕ → List (List ℕ) → Place → Type 0
+IsFront height lines Between = AreGlyphs height lines
+IsFront height lines Within = AreRows height lines
+IsFront height lines After = AreAll height lines
 
 -- ---- faults
 
@@ -53,24 +54,19 @@ why_at Between = why.Glyph
 why_at Within = why.Row
 why_at After = why.End
 
--- the lines end before the line `end`
-abbrev pub IsCut : List (List ℕ) → ℕ → Place → FontWhy → Type 0
-IsCut lines n place reason = (n ≡ length lines) × (place ≢ After) × (reason ≡ why.End)
+-- what is wrong with the end of the lines at a place
+abbrev pub why_cut : Place → Option FontWhy
+why_cut After = None
+why_cut _ = Some why.End
 
--- with one line more they are no first lines of a font
-abbrev pub IsWrong : ℕ → List (List ℕ) → ℕ → Place → FontWhy → Type 0
-IsWrong height lines n place reason =
-    (n < length lines) × ((other : Place) → IsFront height other (take (n + 1) lines) → ⊥)
-    × (reason ≡ why_at place)
+-- the reason against a line at a place
+abbrev pub WhyAt : Place → List ℕ → FontWhy → Type 0
+WhyAt place line reason = reason ≡ why_at place
 
--- so many lines are right, and the next one is wrong, or missing
-pub record IsFault (height : ℕ) (body : List ℕ) (fault : FontFault) : Type 0 where
-  pub right : ℕ
-  pub place : Place
-  pub counted : fault.line ≡ right + 1
-  pub front : IsFront height place (take right (lines_of body))
-  pub wrong : IsCut (lines_of body) right place fault.why
-      ⊎ IsWrong height (lines_of body) right place fault.why
+-- the longest front of a font, and then a line that is wrong, or the end
+abbrev pub IsFault : ℕ → List ℕ → FontFault → Type 0
+IsFault height body fault =
+    IsFirstFault (IsFront height) WhyAt why_cut (lines_of body) fault.line fault.why
 
 -- a refusal tells the fault; of one for want of memory nothing is said
 abbrev pub IsRefused : ℕ → List ℕ → FontRefused → Type 0

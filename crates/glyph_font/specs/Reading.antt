@@ -3,17 +3,17 @@ use Rattle.std.specs.Prelude.{◌≡◌, ℕ, ◌+◌, ◌<◌, ◌≤◌, Bool,
 use Rattle.std.specs.List.{list_all, AllByRecursion}
 use Rattle.spelling.specs.Parts.{lines_of}
 use Rattle.spelling.specs.Words.{◌>>=◌, words_of, after_word, natural_at}
+use Rattle.spelling.specs.LineReading.{read_from}
 use Rattle.glyph_font.specs.declared.place.Place.{Place}
 use Rattle.glyph_font.specs.declared.place.Place.TheVariants.{Between, Within, After}
 use Rattle.glyph_font.specs.declared.draft.LineError.{LineError}
 use Rattle.glyph_font.specs.declared.draft.LineError.TheVariants as line_error
 use Rattle.glyph_font.specs.declared.draft.Draft.{Draft as DraftOfProgram}
-use Rattle.glyph_font.specs.declared.fault.FontWhy.TheVariants as why
-use Rattle.glyph_font.specs.declared.fault.FontFault.{FontFault}
+use Rattle.glyph_font.specs.declared.fault.FontWhy.{FontWhy}
 use Rattle.glyph_font.specs.declared.fault.FontRefused.{FontRefused}
 use Rattle.glyph_font.specs.declared.fault.FontRefused.TheVariants as refused
 use Rattle.glyph_font.specs.Fonts.{Glyph, Font, IsGlyph, IsRising}
-use Rattle.glyph_font.specs.Faults.{why_at}
+use Rattle.glyph_font.specs.Faults.{why_at, why_cut}
 use Rattle.glyph_font.specs.Kept.{glyph_from}
 
 -- ---- lines
@@ -105,26 +105,21 @@ after_line d line = after_at d.place d line
 
 -- ---- bodies
 
--- at the end of the body, where line n would be
-abbrev pub at_end : ℕ → Place → Draft → Result Font FontFault
-at_end n After d = Ok d.font
-at_end n _ d = Err (record { line = n; why = why.End })
+-- the draft after a line, or what is wrong with it
+abbrev pub or_why : Place → Option Draft → Result Draft FontWhy
+or_why place None = Err (why_at place)
+or_why place (Some d) = Ok d
 
--- goes on after line n, or stops there
-abbrev pub on_line : ℕ → Place → Option Draft → (Draft → Result Font FontFault)
-    → Result Font FontFault
-on_line n place None next = Err (record { line = n; why = why_at place })
-on_line n place (Some d) next = next d
+abbrev pub line_step : Draft → List ℕ → Result Draft FontWhy
+line_step d line = or_why d.place (after_line d line)
 
--- the lines from line n on
-abbrev pub read_from : ℕ → Draft → List (List ℕ) → Result Font FontFault
-read_from n d [] = at_end n d.place d
-read_from n d (line ∷ lines) =
-    on_line n d.place (after_line d line) (λ next. read_from (n + 1) next lines)
+-- the lines from line n on: the last draft, or the line that is wrong
+abbrev pub from_line : ℕ → Draft → List (List ℕ) → Result Draft (ℕ × FontWhy)
+from_line n d lines = read_from line_step (λ e. why_cut e.place) n d lines
 
 -- all lines in order
-unfoldable pub read_of : ℕ → List ℕ → Result Font FontFault
-read_of height body = read_from 1 (start height) (lines_of body)
+unfoldable pub read_of : ℕ → List ℕ → Result Draft (ℕ × FontWhy)
+read_of height body = from_line 1 (start height) (lines_of body)
 
 -- ---- what drafts keep
 
@@ -160,6 +155,10 @@ Takes (Err line_error.Memory) new read = Unit {0}
 Takes (Err line_error.Wrong) new read = read ≡ None
 
 -- A fault is what the body says; without memory nothing is said.
-abbrev pub Says : Result Font FontFault → FontRefused → Type 0
+abbrev pub Says : Result Draft (ℕ × FontWhy) → FontRefused → Type 0
 Says read refused.Memory = Unit {0}
-Says read (refused.Fault fault) = read ≡ Err fault
+Says read (refused.Fault fault) = read ≡ Err (fault.line, fault.why)
+
+-- the body says this font
+abbrev pub SaysFont : Result Draft (ℕ × FontWhy) → Font → Type 0
+SaysFont read font = (d : Draft) × (read ≡ Ok d) × (d.place ≡ After) × (d.font ≡ font)

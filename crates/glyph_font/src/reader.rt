@@ -1,10 +1,10 @@
 //! Reads fonts.
 
-ghost use Rattle.std.specs.Prelude.{◌≡◌, ◌≤◌, Ok, IfOk, MatchResult};
+ghost use Rattle.std.specs.Prelude.{◌≡◌, ◌≤◌, IfOk, MatchResult};
 ghost use Rattle.glyph_font.specs.declared.fault.FontRefused.{FontRefused};
 ghost use Rattle.glyph_font.specs.Texts.{IsBody};
 ghost use Rattle.glyph_font.specs.Faults.{IsRefused};
-ghost use Rattle.glyph_font.specs.Reading.{draft_of, read_of, Says};
+ghost use Rattle.glyph_font.specs.Reading.{draft_of, read_of, Says, SaysFont};
 
 use crate::draft::{Draft, LineError};
 use crate::fault::{FontFault, FontRefused, FontWhy};
@@ -22,7 +22,7 @@ fn fault(line: u32, why: FontWhy) -> FontRefused
 #[tactic(auto, unfolding(crate::specs::Reading::read_of))]
 fn read_lines(alloc: Global, height: u8, body: &[u8]) -> Result<Font, FontRefused>
     requires { (1 ≤ height) × (height ≤ 32) }
-    ensures { MatchResult result (λ font. read_of height body.now ≡ Ok font)
+    ensures { MatchResult result (SaysFont (read_of height body.now))
         (Says (read_of height body.now)) }
 {
     let Ok(mut draft) = Draft::new(alloc, height) else {

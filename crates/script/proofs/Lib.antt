@@ -1,9 +1,7 @@
-mod LineLaws
-mod ReadingLemmas
-mod DraftsSpellLines
-mod SpelledLinesAreRead
-mod ReadingIsSpelling
-mod ReasonLemmas
-mod PlaceLemmas
-mod FirstFaultLaws
 pub mod CallerLemmas
+mod ItemLaws
+mod DraftLaws
+mod FrontLaws
+mod ReasonLaws
+mod ReadingLaws
+mod ExampleLaws

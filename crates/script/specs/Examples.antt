@@ -5,7 +5,7 @@ use Rattle.calls.specs.declared.call.Call.TheVariants.{Create, Exec}
 use Rattle.calls.specs.declared.line.Act.TheVariants as act
 use Rattle.calls.specs.declared.line.Line.{Line}
 use Rattle.calls.specs.declared.line.Line.TheVariants.{Task}
-use Rattle.script.specs.Scripts.{Listing}
+use Rattle.script.specs.Scripts.{Item, Title, Screen, Buffers, Desktop, ClassOf, CallOf, Listing}
 
 -- a call of task 1
 abbrev pub by_task_1 : Call → Line
@@ -22,9 +22,16 @@ small_listing = record {
       ∷ by_task_1 Exec ∷ [];
 }
 
--- the lines of that script's file
+-- the items that say so
+abbrev pub small_items : List Item
+small_items =
+    Title ∷ Screen 2 1 ∷ Buffers ∷ Desktop 0 ∷ ClassOf 255
+    ∷ CallOf (by_task_1 (Create (pos 0) (pos 0) 0 1 1))
+    ∷ CallOf (by_task_1 (Create (pos 0) (pos 0) 1 1 7)) ∷ CallOf (by_task_1 Exec) ∷ []
+
+-- the lines of that script's file, with comments
 abbrev pub small_lines : List (List ℕ)
 small_lines =
-    codes "mtgui 1" ∷ codes "screen 2 1" ∷ codes "buffers 1" ∷ codes "desktop 000000" ∷
-    codes "class 1 0000FF" ∷ codes "end" ∷
-    codes "1 create 1 0 0 0 1 1" ∷ codes "1 create 1 0 0 1 1 7" ∷ codes "1 exec" ∷ []
+    codes "mtgui 1" ∷ codes "# a small screen" ∷ codes "screen 2 1" ∷ codes "buffers 1"
+    ∷ codes "desktop 000000" ∷ codes "class 1 0000FF" ∷ codes "" ∷ codes "end"
+    ∷ codes "1 create 1 0 0 0 1 1" ∷ codes "1 create 1 0 0 1 1 7" ∷ codes "1 exec" ∷ []

@@ -1,74 +1,54 @@
--- The first fault of a file: of each line, what may be held against it by the lines before it.
-use Rattle.std.specs.Prelude.{◌≡◌, ℕ, ◌+◌, ◌-◌, ◌<◌, ◌≤◌, ◌⊎◌, Bool, false, not, ◌&&◌, ◌||◌, List, [], ◌∷◌, length, take, drop, Option, Some, None, is_some, nat_lt, nat_le, ◌==◌, if◌then◌else◌, find, bytes_eq, codes}
-use Rattle.std.specs.List.{count_by}
+-- The first fault of a file, by the items before it. No function that reads stands in it.
+use Rattle.std.specs.Prelude.{◌≡◌, ◌⊎◌, ℕ, ◌<◌, ◌≤◌, Bool, true, false, ◌&&◌, ◌||◌, List, [], ◌∷◌, ◌++◌, length, Option, Some, None, is_some, nat_lt, ◌==◌, if◌then◌else◌, bytes_eq, codes}
+use Rattle.std.specs.List.{AllByRecursion}
+use Rattle.spelling.specs.Parts.{lines_of, is_printable}
+use Rattle.spelling.specs.Words.{words_of, begins_with, natural_in}
+use Rattle.spelling.specs.Fields.{AreIn}
+use Rattle.spelling.specs.Items.{AreComments}
+use Rattle.spelling.specs.FirstFaults.{IsFirst, IsFirstFault}
+use Rattle.calls.specs.declared.line.Line.{Line}
+use Rattle.calls.specs.Words.{text_of_line, LineFits}
 use Rattle.script.specs.declared.fault.Reason.{Reason}
-use Rattle.script.specs.declared.fault.Reason.TheVariants.{TooLarge, Ascii, Later, Header, Block, Late, Asset, Call, Many, End}
+use Rattle.script.specs.declared.fault.Reason.TheVariants as reason
 use Rattle.script.specs.declared.fault.ScriptFault.{ScriptFault}
 use Rattle.script.specs.declared.fault.ScriptRefused.{ScriptRefused}
 use Rattle.script.specs.declared.fault.ScriptRefused.TheVariants as read_error
-use Rattle.spelling.specs.Parts.{lines_of}
-use Rattle.spelling.specs.Parts.{is_printable}
-use Rattle.script.specs.Comments.{is_comment, without_comments}
-use Rattle.spelling.specs.Words.{words_of, after_word, begins_with, natural_in}
-use Rattle.script.specs.Fields.{screen_in, desktop_in, class_in, line_in}
 use Rattle.script.specs.Later.{is_one_of, begins_with_one_of, later_words, later_in_block, is_later_class, is_later_call}
+use Rattle.script.specs.Scripts.{Item, Before, class_fields, class_text, after_items, AreItemsOf}
 
--- ---- where a line stands, by the lines before it that are no comments
+-- ---- where a line stands
 
--- fewer lines than the header has
-abbrev pub is_in_header : List (List ℕ) → Bool
-is_in_header front = nat_lt (length front) 4
+-- between items, after what stands before; or in a class's block
+pub data Place : Type 0 where
+  Between : Before → Place
+  InClass : Place
 
--- the first word is `class`
-abbrev pub opens_class : List ℕ → Bool
-opens_class line = begins_with (codes "class") (words_of line)
+-- whole items, and what stands after them
+pub record AreWhole (lines : List (List ℕ)) (b : Before) : Type 0 where
+  pub items : List Item
+  pub spelled : AreItemsOf items lines
+  pub before : after_items items ≡ b
 
-abbrev pub last_opens_class : List (List ℕ) → Bool
-last_opens_class [] = false
-last_opens_class (line ∷ []) = opens_class line
-last_opens_class (line ∷ next ∷ lines) = last_opens_class (next ∷ lines)
+-- whole items, and then the first line of a class that may be opened there, and comments
+pub record AreOpen (lines : List (List ℕ)) : Type 0 where
+  pub front : List (List ℕ)
+  pub before : Before
+  pub whole : AreWhole front before
+  pub header : before.header ≡ 4
+  pub early : before.calls ≡ 0
+  pub back : ℕ
+  pub counted : AreIn class_fields (before.classes, (back, tt))
+  pub body : List (List ℕ)
+  pub comments : AreComments body
+  pub spelled : lines ≡ front ++ class_text before.classes back ∷ body
 
--- after the line that opens a class
-abbrev pub is_in_block : List (List ℕ) → Bool
-is_in_block front = not (is_in_header front) && last_opens_class front
+abbrev pub StandsAt : List (List ℕ) → Place → Type 0
+StandsAt lines (Between b) = AreWhole lines b
+StandsAt lines InClass = AreOpen lines
 
--- how many classes were opened after the header
-abbrev pub class_count : List (List ℕ) → ℕ
-class_count front = count_by opens_class (drop 4 front)
-
--- a line of a class, its first or its last
-abbrev pub is_of_class : List ℕ → Bool
-is_of_class line = opens_class line || bytes_eq line (codes "end")
-
--- how many calls there were: where no line before had a reason, each line after the header is a
--- class's or a call
-abbrev pub call_count : List (List ℕ) → ℕ
-call_count front = count_by (λ line. not (is_of_class line)) (drop 4 front)
-
--- ---- forms of lines
-
--- the header's line at its place, counted from 0
-abbrev pub is_header_line : ℕ → List ℕ → Bool
-is_header_line place line =
-    if place == 0 then bytes_eq line (codes "mtgui 1") else
-    (if place == 1 then is_some (screen_in (words_of line)) else
-    (if place == 2 then bytes_eq line (codes "buffers 1")
-    else is_some (desktop_in (words_of line))))
-
--- opens the class of that number
-abbrev pub has_class : ℕ → Option (ℕ × ℕ) → Bool
-has_class number None = false
-has_class number (Some class) = class.0 == number
-
-abbrev pub fields_open_class : ℕ → Option (List (List ℕ)) → Bool
-fields_open_class number None = false
-fields_open_class number (Some fields) = has_class number (class_in fields)
-
-abbrev pub is_class_line : ℕ → List ℕ → Bool
-is_class_line number line = fields_open_class number (after_word (codes "class") (words_of line))
-
-abbrev pub is_call_line : List ℕ → Bool
-is_call_line line = is_some (line_in (words_of line))
+-- the lines are the first ones of a script, and after them stands this place
+abbrev pub IsFront : List (List ℕ) → Place → Type 0
+IsFront lines place = AllByRecursion (λ line. is_printable line ≡ true) lines × StandsAt lines place
 
 -- ---- forms that aren't built
 
@@ -81,54 +61,67 @@ is_later_elsewhere (first ∷ words) =
     is_one_of later_words first || (bytes_eq first (codes "class") && is_later_class words)
     || (is_some (natural_in 1 16 first) && is_later_call words)
 
-abbrev pub is_later : List (List ℕ) → List ℕ → Bool
-is_later front line =
-    if is_in_header front then is_later_in_header line
-    else (if is_in_block front then begins_with_one_of later_in_block (words_of line)
-    else is_later_elsewhere (words_of line))
+abbrev pub is_later : Place → List ℕ → Bool
+is_later (Between b) line =
+    if nat_lt b.header 4 then is_later_in_header line else is_later_elsewhere (words_of line)
+is_later InClass line = begins_with_one_of later_in_block (words_of line)
 
 -- ---- reasons
 
--- whether the reason holds against a line that is no comment
-abbrev pub holds : List (List ℕ) → List ℕ → Reason → Bool
-holds front line TooLarge = false
-holds front line Ascii = not (is_printable line)
-holds front line Later = is_later front line
-holds front line Header = is_in_header front && not (is_header_line (length front) line)
-holds front line Block = is_in_block front && not (bytes_eq line (codes "end"))
-holds front line Late = opens_class line && nat_lt 0 (call_count front)
-holds front line Asset = opens_class line && not (is_class_line (class_count front + 1) line)
-holds front line Call =
-    not (is_in_header front || is_in_block front || opens_class line || is_call_line line)
-holds front line Many = is_call_line line && nat_le 400000 (call_count front)
-holds front line End = false
+-- the line is a call line
+abbrev pub IsCallLine : List ℕ → Type 0
+IsCallLine text = (line : Line) × LineFits line × (text ≡ text_of_line line)
 
--- all reasons against a line, in their order; a comment is only looked at for its bytes
-abbrev pub reasons_for : List ℕ → List Reason
-reasons_for line =
-    if is_comment line then Ascii ∷ []
-    else Ascii ∷ Later ∷ Header ∷ Block ∷ Late ∷ Asset ∷ Call ∷ Many ∷ []
+-- the first word is `class`
+abbrev pub opens_class : List ℕ → Bool
+opens_class line = begins_with (codes "class") (words_of line)
 
--- the first reason that holds against a line
-abbrev pub reason_of : List (List ℕ) → List ℕ → Option Reason
-reason_of front line = find (holds front line) (reasons_for line)
+-- The reason may be held against a line that makes no longer front. So the line is known not to be
+-- the one that belongs at its place.
+abbrev pub HoldsBetween : Before → List ℕ → Reason → Type 0
+HoldsBetween b line reason.Header = b.header < 4
+HoldsBetween b line reason.Late = (b.header ≡ 4) × (opens_class line ≡ true) × (0 < b.calls)
+HoldsBetween b line reason.Asset = (b.header ≡ 4) × (opens_class line ≡ true)
+HoldsBetween b line reason.Call = (b.header ≡ 4) × (IsCallLine line → ⊥)
+HoldsBetween b line reason.Many = (b.header ≡ 4) × IsCallLine line
+HoldsBetween b line _ = ⊥
 
--- the reason against the next line, or against the end where there is none
-abbrev pub next_reason : List (List ℕ) → List (List ℕ) → Option Reason
-next_reason front [] = if is_in_header front || is_in_block front then Some End else None
-next_reason front (line ∷ lines) = reason_of front line
+abbrev pub HoldsInClass : Reason → Type 0
+HoldsInClass reason.Block = Unit {0}
+HoldsInClass _ = ⊥
 
--- the reason against what comes after n lines
-abbrev pub reason_after : List (List ℕ) → ℕ → Option Reason
-reason_after lines n = next_reason (without_comments (take n lines)) (drop n lines)
+abbrev pub HoldsAt : Place → List ℕ → Reason → Type 0
+HoldsAt (Between b) line why = HoldsBetween b line why
+HoldsAt InClass line why = HoldsInClass why
+
+abbrev pub Holds : Place → List ℕ → Reason → Type 0
+Holds place line reason.Ascii = is_printable line ≡ false
+Holds place line reason.Later = is_later place line ≡ true
+Holds place line why = HoldsAt place line why
+
+-- the order of the reasons
+abbrev pub rank : Reason → ℕ
+rank reason.TooLarge = 0
+rank reason.Ascii = 1
+rank reason.Later = 2
+rank reason.Header = 3
+rank reason.Block = 4
+rank reason.Late = 5
+rank reason.Asset = 6
+rank reason.Call = 7
+rank reason.Many = 8
+rank reason.End = 9
+
+-- the first reason that holds
+abbrev pub Why : Place → List ℕ → Reason → Type 0
+Why place line why = IsFirst rank (Holds place line) why
+
+-- the file may end after the whole header, outside blocks
+abbrev pub why_cut : Place → Option Reason
+why_cut (Between b) = if b.header == 4 then None else Some reason.End
+why_cut InClass = Some reason.End
 
 -- ---- faults
-
--- the reason holds against that line, and no line before has one
-pub record IsFirst (lines : List (List ℕ)) (fault : ScriptFault) : Type 0 where
-  pub counted : 1 ≤ fault.line
-  pub here : reason_after lines (fault.line - 1) ≡ Some fault.why
-  pub none_before : (n : ℕ) → n + 1 < fault.line → reason_after lines n ≡ None
 
 -- more bytes than a script may have
 abbrev pub IsTooLarge : List ℕ → Type 0
@@ -137,8 +130,9 @@ IsTooLarge file = 100663296 < length file
 -- the fault of a file
 abbrev pub IsFault : List ℕ → ScriptFault → Type 0
 IsFault file fault =
-    (IsTooLarge file × (fault ≡ record { line = 0; why = TooLarge }))
-    ⊎ ((length file ≤ 100663296) × IsFirst (lines_of file) fault)
+    (IsTooLarge file × (fault ≡ record { line = 0; why = reason.TooLarge }))
+    ⊎ ((length file ≤ 100663296)
+    × IsFirstFault IsFront Why why_cut (lines_of file) fault.line fault.why)
 
 -- an error of reading is the file's fault; without memory nothing is said
 abbrev pub IsError : List ℕ → ScriptRefused → Type 0

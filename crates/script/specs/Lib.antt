@@ -1,5 +1,3 @@
-pub mod Comments
-pub mod Spelling
 pub mod Scripts
 pub mod Fields
 pub mod Later

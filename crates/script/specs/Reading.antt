@@ -1,23 +1,25 @@
--- Reading a file line by line: its script, or its first fault.
-use Rattle.std.specs.Prelude.{◌≡◌, ℕ, ◌+◌, ◌&&◌, ◌||◌, List, [], ◌∷◌, ◌++◌, length, Option, Some, None, is_some, Result, Ok, Err, nat_lt, nat_le, ◌==◌, if◌then◌else◌, bytes_eq, codes}
+-- Reading a file line by line: what its items say, or its first fault.
+use Rattle.std.specs.Prelude.{◌≡◌, ℕ, ◌&&◌, ◌||◌, List, [], ◌∷◌, ◌++◌, length, Option, Some, None, is_some, Result, Ok, Err, nat_lt, nat_le, ◌==◌, if◌then◌else◌, bytes_eq, codes}
 use Rattle.calls.specs.declared.line.Line.{Line}
+use Rattle.calls.specs.Words.{line_of}
+use Rattle.spelling.specs.Parts.{lines_of, is_printable}
+use Rattle.spelling.specs.Words.{words_of, after_word, natural_in}
+use Rattle.spelling.specs.Fields.{Values}
+use Rattle.spelling.specs.Items.{is_comment}
+use Rattle.spelling.specs.LineReading.{read_from}
 use Rattle.script.specs.declared.draft.Stage.{Stage}
 use Rattle.script.specs.declared.draft.Stage.TheVariants as stage
 use Rattle.script.specs.declared.draft.Draft.{Draft as DraftOfProgram}
 use Rattle.script.specs.declared.fault.Reason.{Reason}
-use Rattle.script.specs.declared.fault.Reason.TheVariants.{TooLarge, Ascii, Later, Header, Block, Late, Asset, Call, Many, End}
-use Rattle.script.specs.declared.fault.ScriptFault.{ScriptFault}
+use Rattle.script.specs.declared.fault.Reason.TheVariants.{TooLarge, Ascii, Later, Header, Block, Late, Asset, Call, Many}
 use Rattle.script.specs.declared.fault.LineError.{LineError}
 use Rattle.script.specs.declared.fault.LineError.TheVariants as line_error
 use Rattle.script.specs.declared.fault.ScriptRefused.{ScriptRefused}
 use Rattle.script.specs.declared.fault.ScriptRefused.TheVariants as read_error
-use Rattle.spelling.specs.Parts.{lines_of}
-use Rattle.spelling.specs.Parts.{is_printable}
-use Rattle.script.specs.Comments.{is_comment}
-use Rattle.spelling.specs.Words.{words_of, after_word, natural_in}
-use Rattle.script.specs.Fields.{screen_in, desktop_in, class_in, line_in}
+use Rattle.script.specs.Fields.{screen_in, desktop_in, class_in}
 use Rattle.script.specs.Later.{is_one_of, begins_with_one_of, later_words, later_in_block, is_later_class, is_later_call}
-use Rattle.script.specs.Scripts.{Listing, Script, script_for}
+use Rattle.script.specs.Scripts.{Before, Listing, Script, class_fields, script_for}
+use Rattle.script.specs.Faults.{Place, Between, InClass, why_cut}
 
 -- ---- reasons against a line
 
@@ -66,7 +68,7 @@ after_title d line =
 unfoldable pub after_screen : Draft → List ℕ → Result Draft Reason
 after_screen d line =
     after_value (screen_in (words_of line)) (header_reason line)
-    (λ sides. record d { stage = stage.Buffers; width = sides.0; height = sides.1 })
+    (λ sides. record d { stage = stage.Buffers; width = sides.0; height = sides.1.0 })
 
 -- after `buffers 1`
 unfoldable pub after_buffers : Draft → List ℕ → Result Draft Reason
@@ -78,7 +80,7 @@ after_buffers d line =
 unfoldable pub after_desktop : Draft → List ℕ → Result Draft Reason
 after_desktop d line =
     after_value (desktop_in (words_of line)) (header_reason line)
-    (λ colour. record d { stage = stage.Body; classes = d.classes ++ colour ∷ [] })
+    (λ colour. record d { stage = stage.Body; classes = d.classes ++ colour.0 ∷ [] })
 
 -- after the end of a class's block
 unfoldable pub after_block : Draft → List ℕ → Result Draft Reason
@@ -87,11 +89,11 @@ after_block d line =
     else Err (block_reason (words_of line))
 
 -- after the line that opens the class of this number and colour
-abbrev pub after_opening : Draft → Option (ℕ × ℕ) → Result Draft Reason
+abbrev pub after_opening : Draft → Option (Values class_fields) → Result Draft Reason
 after_opening d None = Err Asset
 after_opening d (Some class) =
     if class.0 == length d.classes
-    then Ok (record d { stage = stage.Block; classes = d.classes ++ class.1 ∷ [] }) else Err Asset
+    then Ok (record d { stage = stage.Block; classes = d.classes ++ class.1.0 ∷ [] }) else Err Asset
 
 -- after a line by its words after `class`
 unfoldable pub after_class : Draft → List (List ℕ) → Result Draft Reason
@@ -113,7 +115,7 @@ after_call d line (Some call) =
 
 -- after a call line or a class's first line
 unfoldable pub after_body : Draft → List ℕ → Result Draft Reason
-after_body d line = after_call d line (line_in (words_of line))
+after_body d line = after_call d line (line_of (words_of line))
 
 -- after a line that is no comment
 abbrev pub after_words : Stage → Draft → List ℕ → Result Draft Reason
@@ -132,31 +134,36 @@ after_line d line =
 
 -- ---- files
 
--- the script of a draft whose file has ended
+-- what the lines of a draft say
 abbrev pub listing_from : Draft → Listing
 listing_from d = record { width = d.width; height = d.height; classes = d.classes; lines = d.lines }
 
--- at the end of the file, where line n would be
-abbrev pub at_end : ℕ → Stage → Draft → Result Listing ScriptFault
-at_end n stage.Body d = Ok (listing_from d)
-at_end n _ d = Err (record { line = n; why = End })
+-- what stands before the next item, where there were so many lines of the header
+abbrev pub before_at : ℕ → Draft → Before
+before_at header d =
+    record { header = header; classes = length d.classes; calls = length d.lines }
 
--- goes on after line n, or stops there
-abbrev pub on_line : ℕ → Result Draft Reason → (Draft → Result Listing ScriptFault)
-    → Result Listing ScriptFault
-on_line n (Ok d) next = next d
-on_line n (Err reason) next = Err (record { line = n; why = reason })
+-- where the next line stands
+abbrev pub place_at : Stage → Draft → Place
+place_at stage.Title d = Between (before_at 0 d)
+place_at stage.Screen d = Between (before_at 1 d)
+place_at stage.Buffers d = Between (before_at 2 d)
+place_at stage.Desktop d = Between (before_at 3 d)
+place_at stage.Body d = Between (before_at 4 d)
+place_at stage.Block d = InClass
 
--- the lines from line n on
-abbrev pub read_from : ℕ → Draft → List (List ℕ) → Result Listing ScriptFault
-read_from n d [] = at_end n d.stage d
-read_from n d (line ∷ lines) = on_line n (after_line d line) (λ next. read_from (n + 1) next lines)
+abbrev pub place_of : Draft → Place
+place_of d = place_at d.stage d
+
+-- the lines from line n on: the last draft, or the line that is wrong
+abbrev pub from_line : ℕ → Draft → List (List ℕ) → Result Draft (ℕ × Reason)
+from_line n d lines = read_from after_line (λ e. why_cut (place_of e)) n d lines
 
 -- all lines, in order: the fault is the first one
-unfoldable pub listing_of : List ℕ → Result Listing ScriptFault
-listing_of file =
-    if nat_le (length file) 100663296 then read_from 1 empty_draft (lines_of file)
-    else Err (record { line = 0; why = TooLarge })
+unfoldable pub read_of : List ℕ → Result Draft (ℕ × Reason)
+read_of file =
+    if nat_le (length file) 100663296 then from_line 1 empty_draft (lines_of file)
+    else Err (0, TooLarge)
 
 -- ---- what the program gives
 
@@ -177,11 +184,11 @@ Takes (Ok _) new read = read ≡ Ok (draft_of new)
 Takes (Err line_error.Memory) new read = Unit {0}
 Takes (Err (line_error.Wrong reason)) new read = read ≡ Err reason
 
--- what was read is the script of the listing
-abbrev pub Reads : Script → Result Listing ScriptFault → Type 0
-Reads s read = (listing : Listing) × (read ≡ Ok listing) × (s ≡ script_for listing)
+-- what was read is the script of the draft
+abbrev pub Reads : Script → Result Draft (ℕ × Reason) → Type 0
+Reads s read = (d : Draft) × (read ≡ Ok d) × (s ≡ script_for (listing_from d))
 
 -- A fault is what the file says; without memory nothing is said.
-abbrev pub Says : Result Listing ScriptFault → ScriptRefused → Type 0
+abbrev pub Says : Result Draft (ℕ × Reason) → ScriptRefused → Type 0
 Says read read_error.Memory = Unit {0}
-Says read (read_error.Fault fault) = read ≡ Err fault
+Says read (read_error.Fault fault) = read ≡ Err (fault.line, fault.why)

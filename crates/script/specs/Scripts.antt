@@ -1,21 +1,103 @@
 -- What a script says, and which files are scripts.
-use Rattle.std.specs.Prelude.{◌≡◌, ℕ, ◌^◌, ◌<◌, ◌≤◌, true, List, [], ◌++◌, length, map, Some, slice_index, FitsSigned}
+use Rattle.std.specs.Prelude.{◌≡◌, ℕ, ◌+◌, ◌≤◌, true, List, [], ◌∷◌, ◌++◌, length, map, Some, slice_index, codes}
 use Rattle.std.specs.List.{AllByRecursion}
-use Rattle.std.specs.Int.{w16}
 use Rattle.paint_ops.specs.Kinds.{Class, Assets}
 use Rattle.paint_ops.specs.Soundness.{IsSound}
-use Rattle.calls.specs.declared.call.Call.{Call}
-use Rattle.calls.specs.declared.call.Call.TheVariants.{Create, Exec, Scan}
 use Rattle.calls.specs.declared.config.Config.{Config}
-use Rattle.calls.specs.declared.line.Act.TheVariants as act
 use Rattle.calls.specs.declared.line.Line.{Line}
-use Rattle.calls.specs.declared.line.Line.TheVariants.{Task}
 use Rattle.calls.specs.Lines.{FitsItsTask}
+use Rattle.calls.specs.Words.{text_of_line, LineFits}
 use Rattle.spelling.specs.Parts.{lines_of, is_printable}
-use Rattle.script.specs.Comments.{without_comments}
-use Rattle.script.specs.Spelling.{header_lines, colour_lines, text_of_line}
+use Rattle.spelling.specs.Fields.{Field, Natural, Colour, AreIn, text_with}
+use Rattle.spelling.specs.Items.{AreComments, AreItems, all_after}
 
--- ---- what a file spells
+-- ---- the fields of lines
+
+abbrev pub screen_fields : List Field
+screen_fields = Natural 1 1024 ∷ Natural 1 768 ∷ []
+
+abbrev pub desktop_fields : List Field
+desktop_fields = Colour ∷ []
+
+-- a class's number and its back colour
+abbrev pub class_fields : List Field
+class_fields = Natural 1 63 ∷ Colour ∷ []
+
+-- the line that opens a class
+abbrev pub class_text : ℕ → ℕ → List ℕ
+class_text number back = text_with (codes "class") class_fields (number, (back, tt))
+
+-- ---- items
+
+-- the header's four lines, and what follows them: classes by their back colours, and call lines
+pub data Item : Type 0 where
+  Title : Item
+  Screen : ℕ → ℕ → Item
+  Buffers : Item
+  Desktop : ℕ → Item
+  ClassOf : ℕ → Item
+  CallOf : Line → Item
+
+-- what stands before an item: how many lines of the header, classes with the desktop's, and call
+-- lines
+pub record Before : Type 0 where
+  pub header : ℕ
+  pub classes : ℕ
+  pub calls : ℕ
+
+abbrev pub nothing : Before
+nothing = record { header = 0; classes = 0; calls = 0 }
+
+abbrev pub after : Before → Item → Before
+after b Title = record b { header = 1 }
+after b (Screen w h) = record b { header = 2 }
+after b Buffers = record b { header = 3 }
+after b (Desktop colour) = record b { header = 4; classes = b.classes + 1 }
+after b (ClassOf back) = record b { classes = b.classes + 1 }
+after b (CallOf line) = record b { calls = b.calls + 1 }
+
+-- what stands after items
+abbrev pub after_items : List Item → Before
+after_items items = all_after after nothing items
+
+-- one line of the header, at its place
+abbrev pub IsHeader : Before → ℕ → List (List ℕ) → List ℕ → Type 0
+IsHeader b place block line = (b.header ≡ place) × (block ≡ line ∷ [])
+
+-- a class's lines, with comments between them: after the header and before the call lines
+pub record IsClassBlock (b : Before) (back : ℕ) (block : List (List ℕ)) : Type 0 where
+  pub header : b.header ≡ 4
+  pub early : b.calls ≡ 0
+  pub counted : AreIn class_fields (b.classes, (back, tt))
+  pub body : List (List ℕ)
+  pub comments : AreComments body
+  pub spelled : block ≡ class_text b.classes back ∷ body ++ codes "end" ∷ []
+
+-- a call line: after the header, and one of at most 400,000
+pub record IsCallBlock (b : Before) (line : Line) (block : List (List ℕ)) : Type 0 where
+  pub header : b.header ≡ 4
+  pub few : b.calls + 1 ≤ 400000
+  pub fits : LineFits line
+  pub spelled : block ≡ text_of_line line ∷ []
+
+-- the lines are this item
+abbrev pub Spells : Before → Item → List (List ℕ) → Type 0
+Spells b Title block = IsHeader b 0 block (codes "mtgui 1")
+Spells b (Screen w h) block =
+    IsHeader b 1 block (text_with (codes "screen") screen_fields (w, (h, tt)))
+    × AreIn screen_fields (w, (h, tt))
+Spells b Buffers block = IsHeader b 2 block (codes "buffers 1")
+Spells b (Desktop colour) block =
+    IsHeader b 3 block (text_with (codes "desktop") desktop_fields (colour, tt))
+    × AreIn desktop_fields (colour, tt)
+Spells b (ClassOf back) block = IsClassBlock b back block
+Spells b (CallOf line) block = IsCallBlock b line block
+
+-- the lines are these items, with comments between them
+abbrev pub AreItemsOf : List Item → List (List ℕ) → Type 0
+AreItemsOf items lines = AreItems Spells after nothing items lines
+
+-- ---- what items say
 
 -- the screen's sides, the classes' back colours from the desktop's on, and the call lines
 pub record Listing : Type 0 where
@@ -24,39 +106,19 @@ pub record Listing : Type 0 where
   pub classes : List ℕ
   pub lines : List Line
 
--- all lines that aren't comments
-abbrev pub text_lines : Listing → List (List ℕ)
-text_lines l = header_lines l.width l.height ++ colour_lines l.classes ++ map text_of_line l.lines
+abbrev pub empty_listing : Listing
+empty_listing = record { width = 0; height = 0; classes = []; lines = [] }
 
--- the ranges of a call's numbers
-abbrev pub CallFits : Call → Type 0
-CallFits (Create x y w h class) =
-    FitsSigned w16 x × FitsSigned w16 y × (w < 2 ^ 16) × (h < 2 ^ 16) × (class < 2 ^ 8)
-CallFits Exec = Unit {0}
-CallFits Scan = Unit {0}
+abbrev pub listing_with : Listing → Item → Listing
+listing_with l Title = l
+listing_with l (Screen w h) = record l { width = w; height = h }
+listing_with l Buffers = l
+listing_with l (Desktop colour) = record l { classes = l.classes ++ colour ∷ [] }
+listing_with l (ClassOf back) = record l { classes = l.classes ++ back ∷ [] }
+listing_with l (CallOf line) = record l { lines = l.lines ++ line ∷ [] }
 
--- the ranges of a line's numbers
-abbrev pub LineFits : Line → Type 0
-LineFits (Task task (act.Call call)) = (1 ≤ task) × (task ≤ 16) × CallFits call
-
--- the ranges of all numbers
-pub record Fits (l : Listing) : Type 0 where
-  pub wide : 1 ≤ l.width
-  pub not_too_wide : l.width ≤ 1024
-  pub high : 1 ≤ l.height
-  pub not_too_high : l.height ≤ 768
-  pub has_desktop : 1 ≤ length l.classes
-  pub few_classes : length l.classes ≤ 64
-  pub colours : AllByRecursion (λ colour. colour < 2 ^ 24) l.classes
-  pub few_lines : length l.lines ≤ 400000
-  pub calls : AllByRecursion LineFits l.lines
-
--- the file's lines, without the comments, spell this
-pub record IsListing (file : List ℕ) (l : Listing) : Type 0 where
-  pub printable : AllByRecursion (λ line. is_printable line ≡ true) (lines_of file)
-  pub spelled : without_comments (lines_of file) ≡ text_lines l
-  pub fits : Fits l
-  pub short : length file ≤ 100663296
+abbrev pub listing_of : List Item → Listing
+listing_of items = all_after listing_with empty_listing items
 
 -- ---- scripts
 
@@ -75,7 +137,7 @@ abbrev pub plain_assets : List ℕ → Assets
 plain_assets colours =
     record { classes = map plain_class colours; fonts = []; bitmaps = []; strings = [] }
 
--- the script of what a file spells: one buffer, and room for as many calls as there are call lines
+-- the script of what items say: one buffer, and room for as many calls as there are call lines
 abbrev pub script_for : Listing → Script
 script_for l = record {
   config = record {
@@ -89,11 +151,14 @@ script_for l = record {
   lines = l.lines;
 }
 
--- the file is this script
+-- the file's lines are items, the whole header among them, and they make this script
 pub record IsScript (file : List ℕ) (s : Script) : Type 0 where
-  pub listing : Listing
-  pub spelled : IsListing file listing
-  pub is : s ≡ script_for listing
+  pub items : List Item
+  pub printable : AllByRecursion (λ line. is_printable line ≡ true) (lines_of file)
+  pub spelled : AreItemsOf items (lines_of file)
+  pub header : (after_items items).header ≡ 4
+  pub short : length file ≤ 100663296
+  pub is : s ≡ script_for (listing_of items)
 
 -- the file is no script
 abbrev pub IsNoScript : List ℕ → Type 0

@@ -1,12 +1,12 @@
 //! A script as far as it was read.
 
-ghost use Rattle.std.specs.Prelude.{◌≡◌, IfOk};
+ghost use Rattle.std.specs.Prelude.{◌≡◌, ◌≤◌, length, IfOk};
 ghost use Rattle.script.specs.declared.draft.Stage.TheVariants as stage;
 ghost use Rattle.spelling.specs.Words.{left};
 ghost use Rattle.script.specs.Reading.{draft_of, empty_draft, listing_from, Takes};
 ghost use Rattle.script.specs.Reading.{after_title, after_screen, after_buffers, after_desktop};
 ghost use Rattle.script.specs.Reading.{after_block, after_class, after_body, after_words};
-ghost use Rattle.script.specs.Scripts.{Fits, script_for};
+ghost use Rattle.script.specs.Scripts.{script_for};
 
 use crate::fault::{LineError, Reason};
 use crate::fields::{class_in, desktop_in, line_in, screen_in};
@@ -174,7 +174,8 @@ impl Draft {
 
     /// The script, where all lines were read.
     pub fn into_script(self, alloc: Global) -> Result<Script, AllocError>
-        requires { Fits (listing_from (draft_of self)) }
+        requires desktop { 1 ≤ length self.classes.items }
+        requires few { length self.lines.items ≤ 400000 }
         ensures { IfOk result (λ s. s ≡ script_for (listing_from (draft_of self))) }
     {
         Ok(Script {

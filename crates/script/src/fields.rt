@@ -1,93 +1,97 @@
-//! What the lines of a script spell: the screen's sides, colours, classes and calls.
+//! What the lines of a script say: the screen's sides, colours, classes and calls.
 
 ghost use Rattle.std.specs.Prelude.{◌≡◌};
 ghost use Rattle.spelling.specs.Words.{Gives, left, words_of};
-ghost use Rattle.script.specs.Fields.{screen_in, desktop_in, class_in, create_at, call_at, line_in};
+ghost use Rattle.spelling.specs.Fields.{Reads};
+ghost use Rattle.calls.specs.Words.{call_with, call_at, line_of};
+ghost use Rattle.script.specs.Fields.{screen_in, desktop_in, class_in};
 
-use calls::{Act, Call, Line};
+use calls::{Act, Call, Line, Word};
 use gfx_base::Colour;
-use spelling::{after_word, colour, is_done, natural_at, number_at, word_at};
+use spelling::{Args, after_word};
 
-/// The sides that `screen W H` spells.
-#[tactic(auto, unfolding(crate::specs::Fields::screen_in))]
+/// The sides that `screen W H` says.
+#[tactic(auto, unfolding(crate::specs::Fields::screen_in, spelling::specs::Fields::line_values))]
 pub fn screen_in(line: &[u8]) -> Option<(u16, u16)>
-    ensures { result ≡ screen_in (words_of line.now) }
+    ensures { Gives (λ sides. (sides.0, (sides.1, tt))) result (screen_in (words_of line.now)) }
 {
-    let rest = after_word(b"screen", Some(line))?;
-    let (width, rest) = natural_at(1, 1024, rest)?;
-    let (height, rest) = natural_at(1, 768, rest)?;
-    if is_done(rest) {
+    let mut args = Args {
+        rest: after_word(b"screen", Some(line))?,
+    };
+    let width = args.natural(1, 1024)?;
+    let height = args.natural(1, 768)?;
+    if args.is_done() {
         Some((width, height))
     } else {
         None
     }
 }
 
-/// The colour that `desktop COLOUR` spells.
-#[tactic(auto, unfolding(crate::specs::Fields::desktop_in))]
+/// The colour that `desktop COLOUR` says.
+#[tactic(auto, unfolding(crate::specs::Fields::desktop_in, spelling::specs::Fields::line_values))]
 pub fn desktop_in(line: &[u8]) -> Option<Colour>
-    ensures { result ≡ desktop_in (words_of line.now) }
+    ensures { Gives (λ colour. (colour, tt)) result (desktop_in (words_of line.now)) }
 {
-    let rest = after_word(b"desktop", Some(line))?;
-    let (word, rest) = word_at(rest)?;
-    let colour = colour(word)?;
-    if is_done(rest) { Some(colour) } else { None }
+    let mut args = Args {
+        rest: after_word(b"desktop", Some(line))?,
+    };
+    let colour = args.colour()?;
+    if args.is_done() { Some(colour) } else { None }
 }
 
-/// The number and the colour that the words after `class` spell.
+/// The number and the colour that the words after `class` say.
 #[tactic(auto, unfolding(crate::specs::Fields::class_in))]
 pub fn class_in(rest: Option<&[u8]>) -> Option<(u16, Colour)>
-    ensures { result ≡ class_in (left rest.entry) }
+    ensures { Gives (λ class. (class.0, (class.1, tt))) result (class_in (left rest.entry)) }
 {
-    let (number, rest) = natural_at(1, 63, rest)?;
-    let (word, rest) = word_at(rest)?;
-    let colour = colour(word)?;
-    if is_done(rest) {
+    let mut args = Args { rest };
+    let number = args.natural(1, 63)?;
+    let colour = args.colour()?;
+    if args.is_done() {
         Some((number, colour))
     } else {
         None
     }
 }
 
-#[tactic(auto, unfolding(crate::specs::Fields::create_at))]
-fn create_at(rest: Option<&[u8]>) -> Option<(Call, Option<&[u8]>)>
-    ensures { Gives (λ x. (x.0, left x.1)) result (create_at (left rest.entry)) }
+/// The call that a word makes of the fields after it.
+fn call_with(word: Word, args: &mut Args) -> Option<Call>
+    ensures { Reads (λ call. call) result (left args.new.rest)
+        (call_with word (left args.old.rest)) }
 {
-    let rest = after_word(b"1", rest)?;
-    let (x, rest) = number_at(rest)?;
-    let (y, rest) = number_at(rest)?;
-    let (w, rest) = natural_at(0, u16::MAX, rest)?;
-    let (h, rest) = natural_at(0, u16::MAX, rest)?;
-    let (class, rest) = natural_at(0, 255, rest)?;
-    let class = class as u8;
-    Some((Call::Create { x, y, w, h, class }, rest))
-}
-
-/// A call by its word.
-#[tactic(auto, unfolding(crate::specs::Fields::call_at))]
-fn call_at(rest: Option<&[u8]>) -> Option<(Call, Option<&[u8]>)>
-    ensures { Gives (λ x. (x.0, left x.1)) result (call_at (left rest.entry)) }
-{
-    let (word, rest) = word_at(rest)?;
-    if word == b"create".as_slice() {
-        create_at(rest)
-    } else if word == b"exec".as_slice() {
-        Some((Call::Exec, rest))
-    } else if word == b"scan".as_slice() {
-        Some((Call::Scan, rest))
-    } else {
-        None
+    match word {
+        Word::Create => {
+            args.natural(1, 1)?;
+            Some(Call::Create {
+                x: args.number()?,
+                y: args.number()?,
+                w: args.side()?,
+                h: args.side()?,
+                class: args.byte()?,
+            })
+        }
+        Word::Exec => Some(Call::Exec),
+        Word::Scan => Some(Call::Scan),
     }
 }
 
-/// The call line that a line spells.
-#[tactic(auto, unfolding(crate::specs::Fields::line_in))]
-pub fn line_in(line: &[u8]) -> Option<Line>
-    ensures { result ≡ line_in (words_of line.now) }
+#[tactic(auto, unfolding(calls::specs::Words::call_at))]
+fn call_at(args: &mut Args) -> Option<Call>
+    ensures { Reads (λ call. call) result (left args.new.rest) (call_at (left args.old.rest)) }
 {
-    let (task, rest) = natural_at(1, 16, Some(line))?;
-    let (call, rest) = call_at(rest)?;
-    if is_done(rest) {
+    let word = Word::of(args.word()?)?;
+    call_with(word, args)
+}
+
+/// The call line that a line says.
+#[tactic(auto, unfolding(calls::specs::Words::line_of))]
+pub fn line_in(line: &[u8]) -> Option<Line>
+    ensures { result ≡ line_of (words_of line.now) }
+{
+    let mut args = Args { rest: Some(line) };
+    let task = args.natural(1, 16)?;
+    let call = call_at(&mut args)?;
+    if args.is_done() {
         Some(Line::Task {
             task,
             act: Act::Call(call),

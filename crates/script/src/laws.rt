@@ -2,9 +2,9 @@
 
 ghost use Rattle.std.specs.Prelude.{◌≡◌, ◌↔◌, ℕ, List, take};
 ghost use Rattle.script.specs.declared.fault.ScriptFault.{ScriptFault};
-ghost use Rattle.script.specs.Scripts.{Script, IsScript, IsNoScript, text_lines};
+ghost use Rattle.script.specs.Scripts.{Script, IsScript, IsNoScript, AreItemsOf, listing_of};
 ghost use Rattle.script.specs.Faults.{IsFault};
-ghost use Rattle.script.specs.Examples.{small_listing, small_lines};
+ghost use Rattle.script.specs.Examples.{small_listing, small_items, small_lines};
 
 /// Does nothing. A file is at most one script.
 pub fn one_script()
@@ -27,7 +27,8 @@ pub fn front_says_all()
         ↔ IsFault file fault }
 {}
 
-/// Does nothing. The lines of a small script, written out.
+/// Does nothing. The items of a small script, written out with comments, and what they say.
 pub fn spelling_in_numbers()
-    ensures { text_lines small_listing ≡ small_lines }
+    ensures items { AreItemsOf small_items small_lines }
+    ensures listing { listing_of small_items ≡ small_listing }
 {}

@@ -2,10 +2,10 @@
 
 ghost use Rattle.std.specs.Prelude.{◌≡◌, Ok, Err, IfOk, IfErr, MatchResult};
 ghost use Rattle.script.specs.declared.fault.ScriptRefused.{ScriptRefused};
-ghost use Rattle.script.specs.Comments.{is_comment};
+ghost use Rattle.spelling.specs.Items.{is_comment};
 ghost use Rattle.script.specs.Scripts.{Script, IsScript, IsReady};
 ghost use Rattle.script.specs.Faults.{IsError};
-ghost use Rattle.script.specs.Reading.{draft_of, after_line, listing_of, Takes, Reads, Says};
+ghost use Rattle.script.specs.Reading.{draft_of, after_line, read_of, Takes, Reads, Says};
 
 use crate::draft::{Draft, Stage};
 use crate::fault::{LineError, Reason, ScriptFault, ScriptRefused};
@@ -41,9 +41,9 @@ fn fault(line: u32, reason: Reason) -> ScriptRefused
     ScriptRefused::Fault(ScriptFault { line, why: reason })
 }
 
-#[tactic(auto, unfolding(crate::specs::Reading::listing_of))]
+#[tactic(auto, unfolding(crate::specs::Reading::read_of))]
 fn read_lines(alloc: Global, text: &[u8]) -> Result<Script, ScriptRefused>
-    ensures { MatchResult result (λ s. Reads s (listing_of text.now)) (Says (listing_of text.now)) }
+    ensures { MatchResult result (λ s. Reads s (read_of text.now)) (Says (read_of text.now)) }
 {
     if text.len() > MOST_BYTES {
         return Err(fault(0, Reason::TooLarge));

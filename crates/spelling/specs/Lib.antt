@@ -1,3 +1,7 @@
 pub mod Digits
 pub mod Parts
 pub mod Words
+pub mod Fields
+pub mod Items
+pub mod LineReading
+pub mod FirstFaults

@@ -1,14 +1,17 @@
 //! Texts as lines and words, and the numbers and colours that words spell. Each value has one
 //! spelling: a number is its decimal digits without a leading zero, with `-` before a negative one,
 //! and a colour is six digits `0` to `9` and `A` to `F`. Lines end with the byte 10, and single
-//! spaces part words.
+//! spaces part words. What holds of every text that is read line by line stands here too: lines
+//! that are items, and the first fault of lines that are none.
 #![tactic(auto)]
 
+mod args;
 mod hex;
 pub mod laws;
 mod lines;
 mod words;
 
+pub use args::Args;
 pub use hex::colour;
 pub use lines::{cut_at, first_line, is_printable};
 pub use words::{

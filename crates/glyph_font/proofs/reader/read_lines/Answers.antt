@@ -2,15 +2,13 @@ use Rattle.std.proofs.Common.{◌≡◌, ◌∙◌, ◌+◌, ◌++◌, ◌∷◌
 use Rattle.std.proofs.lemmas.List.{length-append}
 use Rattle.spelling.specs.Parts.{lines_of}
 use Rattle.glyph_font.specs.declared.fault.FontWhy.{FontWhy}
-use Rattle.glyph_font.specs.declared.fault.FontFault.{FontFault}
-use Rattle.glyph_font.specs.Fonts.{Font}
-use Rattle.glyph_font.specs.Reading.{Draft, draft_of, read_from, read_of, Says}
+use Rattle.glyph_font.specs.Reading.{Draft, draft_of, from_line, read_of, Says}
 use Rattle.glyph_font.proofs.DraftLaws.{few_lines, step}
 use Rattle.glyph_font.proofs.FaultLaws.{reads_wrong, reads_on}
 use Rattle.glyph_font.proofs.reader.read_lines.Goals as goal
 
-abbrev fault_at : ℕ → FontWhy → Result Font FontFault
-fault_at n reason = Err (record { line = n; why = reason })
+abbrev fault_at : ℕ → FontWhy → Result Draft (ℕ × FontWhy)
+fault_at n reason = Err (n, reason)
 
 pub overflow_add-number : goal.overflow_add-number
 overflow_add-number c =
@@ -32,7 +30,7 @@ returns-in-Err-Wrong c =
     let d : Draft = draft_of c.loop-rest.draft in
     let wrong = rw c.in-Err-Wrong.field-0-is at c.in-Err-Wrong.ensures in
     subst (Says (read_of c.args.height c.args.body.now)) (sym c.fault.ensures)
-    (sym c.loop-rest.invariant.read ∙ ap (read_from n d) c.first_line.ensures.lines ∙ reads_wrong n d c.first_line.result.0.now (lines_of c.first_line.result.1.now) wrong ∙ ap (fault_at n) (sym c.why_at.ensures))
+    (sym c.loop-rest.invariant.read ∙ ap (from_line n d) c.first_line.ensures.lines ∙ reads_wrong n d c.first_line.result.0.now (lines_of c.first_line.result.1.now) wrong ∙ ap (fault_at n) (sym c.why_at.ensures))
 
 pub loop-rest-preserved : goal.loop-rest-preserved
 loop-rest-preserved c =
@@ -43,6 +41,6 @@ loop-rest-preserved c =
     let same : length stands.0 ≡ c.loop-rest.number = stands.1 in
     let more = length-append stands.0 (line ∷ []) in
     record {
-      read = sym (reads_on n d (draft_of c.take.new.self) line (lines_of c.first_line.result.1.now) c.in-Ok-take.ensures) ∙ sym (ap (read_from n d) c.first_line.ensures.lines) ∙ c.loop-rest.invariant.read;
+      read = sym (reads_on n d (draft_of c.take.new.self) line (lines_of c.first_line.result.1.now) c.in-Ok-take.ensures) ∙ sym (ap (from_line n d) c.first_line.ensures.lines) ∙ c.loop-rest.invariant.read;
       stands = (stands.0 ++ line ∷ [], omega arith, step d (draft_of c.take.new.self) stands.0 line stands.2 c.in-Ok-take.ensures);
     }

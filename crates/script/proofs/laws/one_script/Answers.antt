@@ -1,5 +1,5 @@
-use Rattle.script.proofs.ReadingIsSpelling.{script_unique}
+use Rattle.script.proofs.ItemLaws.{one_script}
 use Rattle.script.proofs.laws.one_script.Goals as goal
 
 pub returns : goal.returns
-returns c = script_unique
+returns c = one_script

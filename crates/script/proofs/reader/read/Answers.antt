@@ -1,5 +1,4 @@
-use Rattle.script.proofs.ReadingIsSpelling.{is_found, is_ready, only_script}
-use Rattle.script.proofs.FirstFaultLaws.{is_error}
+use Rattle.script.proofs.ReadingLaws.{is_found, is_ready, only_script, is_error}
 use Rattle.script.proofs.reader.read.Goals as goal
 
 pub returns-clause-found : goal.returns-clause-found

@@ -1,0 +1,120 @@
+-- The table of the words that name calls, and the lines that they make.
+use Rattle.std.specs.Prelude.{ℕ, ◌≤◌, List, [], ◌∷◌, length, Option, Some, None, ◌==◌, if◌then◌else◌, find, bytes_eq, codes}
+use Rattle.std.specs.Fmt.{decimal}
+use Rattle.spelling.specs.Words.{◌>>=◌, first_word, natural_at, text_of_words}
+use Rattle.spelling.specs.Fields.{Field, Natural, Number, Makes, Values, taking, texts_of, AreIn, read_fields}
+use Rattle.calls.specs.declared.word.Word.{Word}
+use Rattle.calls.specs.declared.word.Word.TheVariants as word
+use Rattle.calls.specs.declared.call.Call.{Call}
+use Rattle.calls.specs.declared.call.Call.TheVariants as call
+use Rattle.calls.specs.declared.line.Act.TheVariants as act
+use Rattle.calls.specs.declared.line.Line.{Line}
+use Rattle.calls.specs.declared.line.Line.TheVariants.{Task}
+
+-- ---- kinds of fields
+
+-- a new window's parent; today it is the desktop, window 1
+abbrev pub desktop_handle : Field
+desktop_handle = Natural 1 1
+
+abbrev pub side : Field
+side = Natural 0 65535
+
+abbrev pub byte : Field
+byte = Natural 0 255
+
+-- ---- the table
+
+-- a word, its fields, and the call that their values make
+pub data Row : Type 0 where
+  row : List ℕ → (fields : List Field) → Makes fields Call → Row
+
+abbrev pub name_of : Row → List ℕ
+name_of (row name fields make) = name
+
+abbrev pub fields_of : Row → List Field
+fields_of (row name fields make) = fields
+
+abbrev pub make_of : (r : Row) → Makes (fields_of r) Call
+make_of (row name fields make) = make
+
+abbrev pub row_of : Word → Row
+row_of word.Create =
+    row (codes "create") (desktop_handle ∷ Number ∷ Number ∷ side ∷ side ∷ byte ∷ [])
+    (λ parent. call.Create)
+row_of word.Exec = row (codes "exec") [] call.Exec
+row_of word.Scan = row (codes "scan") [] call.Scan
+
+-- sealed, so that a proof about a call's fields doesn't look at the letters of its name
+unfoldable pub name_of_word : Word → List ℕ
+name_of_word w = name_of (row_of w)
+
+abbrev pub all_words : List Word
+all_words = word.Create ∷ word.Exec ∷ word.Scan ∷ []
+
+-- ---- the text of a call line
+
+-- a word with a value for each of its fields
+pub data Said : Type 0 where
+  said_by : (w : Word) → Values (fields_of (row_of w)) → Said
+
+abbrev pub say : (w : Word) → Makes (fields_of (row_of w)) Said
+say w = taking (fields_of (row_of w)) (said_by w)
+
+-- each call is a word with values
+abbrev pub said : Call → Said
+said (call.Create x y w h class) = say word.Create 1 x y w h class
+said call.Exec = say word.Exec
+said call.Scan = say word.Scan
+
+abbrev pub words_of_said : Said → List (List ℕ)
+words_of_said (said_by w vs) = name_of_word w ∷ texts_of (fields_of (row_of w)) vs
+
+abbrev pub SaidFits : Said → Type 0
+SaidFits (said_by w vs) = AreIn (fields_of (row_of w)) vs
+
+-- the call's word and its fields
+abbrev pub words_of_call : Call → List (List ℕ)
+words_of_call c = words_of_said (said c)
+
+-- the ranges of a call's numbers
+abbrev pub CallFits : Call → Type 0
+CallFits c = SaidFits (said c)
+
+-- a call line's words: the task and its call
+abbrev pub line_words : Line → List (List ℕ)
+line_words (Task task (act.Call c)) = decimal task ∷ words_of_call c
+
+-- a call line
+abbrev pub text_of_line : Line → List ℕ
+text_of_line line = text_of_words (line_words line)
+
+-- the ranges of a line's numbers
+abbrev pub LineFits : Line → Type 0
+LineFits (Task task (act.Call c)) = (1 ≤ task) × (task ≤ 16) × CallFits c
+
+-- ---- reading
+
+-- the word of this name
+unfoldable pub word_of : List ℕ → Option Word
+word_of name = find (λ w. bytes_eq name (name_of_word w)) all_words
+
+-- what the words after it say
+abbrev pub call_by : Row → List (List ℕ) → Option (Call × List (List ℕ))
+call_by (row name fields make) words = read_fields fields make words
+
+abbrev pub call_with : Word → List (List ℕ) → Option (Call × List (List ℕ))
+call_with w words = call_by (row_of w) words
+
+unfoldable pub call_at : List (List ℕ) → Option (Call × List (List ℕ))
+call_at words = do
+  name ← first_word words
+  w ← word_of name.0
+  call_with w name.1
+
+-- the call line that the words say, all of them
+unfoldable pub line_of : List (List ℕ) → Option Line
+line_of words = do
+  task ← natural_at 1 16 words
+  call ← call_at task.1
+  if length call.1 == 0 then Some (Task task.0 (act.Call call.0)) else None

@@ -1,0 +1,288 @@
+-- What a draft says of the lines that were read: they are the first ones of a script.
+use Rattle.std.proofs.Common.{◌≡◌, ℕ, ◌+◌, ◌<◌, Bool, true, false, cond, eqb, ltb, List, [], ◌∷◌, ◌++◌, length, Option, Some, None, Result, Ok, Err, refl, sym, ap, subst, ◌∙◌, inl, inr, arith, append_assoc}
+use Rattle.std.specs.Prelude.{bytes_eq, codes}
+use Rattle.std.specs.List.{AllByRecursion}
+use Rattle.std.proofs.lemmas.Bool.{ltb-true}
+use Rattle.std.proofs.lemmas.Bool.Decides.{nat_tests}
+use Rattle.std.proofs.lemmas.List.{append-nil, length-append}
+use Rattle.spelling.specs.Parts.{is_printable}
+use Rattle.spelling.specs.Words.{words_of, after_word}
+use Rattle.spelling.specs.Fields.{Values, texts_of, AreIn}
+use Rattle.spelling.specs.Items.{is_comment, AreComments}
+use Rattle.spelling.specs.LineReading.{run}
+use Rattle.spelling.proofs.CallerLemmas.{chosen, named, after_word_takes, line_from_words, values_take, line_values_take, comments_more, items_comment, items_more, all_after_more, on_ok}
+use Rattle.calls.specs.declared.line.Line.{Line}
+use Rattle.calls.specs.Words.{line_of}
+use Rattle.calls.proofs.CallerLemmas.{line_read}
+use Rattle.script.specs.declared.draft.Stage.{Stage}
+use Rattle.script.specs.declared.draft.Stage.TheVariants as stage
+use Rattle.script.specs.declared.fault.Reason.{Reason}
+use Rattle.script.specs.declared.fault.Reason.TheVariants as reason
+use Rattle.script.specs.Fields.{screen_in, desktop_in, class_in}
+use Rattle.script.specs.Later.{is_later_class}
+use Rattle.script.specs.Scripts.{screen_fields, desktop_fields, class_fields, class_text, Item, Title, Screen, Buffers, Desktop, ClassOf, CallOf, Before, nothing, after, after_items, Spells, AreItemsOf, Listing, empty_listing, listing_with, listing_of}
+use Rattle.script.specs.Faults.{IsFront, StandsAt}
+use Rattle.script.specs.Reading.{Draft, after_value, after_title, after_screen, after_buffers, after_desktop, after_block, after_opening, after_class, after_other, after_call, after_body, after_words, after_line, listing_from, before_at, place_at, place_of, header_reason, block_reason, empty_draft}
+
+-- ---- where a draft stands
+
+-- the lines are items, which say what the draft says
+pub record HasItems (header : ℕ) (d : Draft) (lines : List (List ℕ)) : Type 0 where
+  pub items : List Item
+  pub spelled : AreItemsOf items lines
+  pub before : after_items items ≡ before_at header d
+  pub said : listing_of items ≡ listing_from d
+
+-- the draft with a class that was opened
+abbrev pub opened : Draft → ℕ → Draft
+opened d back = record d { stage = stage.Block; classes = d.classes ++ back ∷ [] }
+
+-- the lines are items, a class's first line and comments
+pub record HasClass (d : Draft) (lines : List (List ℕ)) : Type 0 where
+  pub old : Draft
+  pub front : List (List ℕ)
+  pub has : HasItems 4 old front
+  pub early : length old.lines ≡ 0
+  pub back : ℕ
+  pub counted : AreIn class_fields (length old.classes, (back, tt))
+  pub is : d ≡ opened old back
+  pub body : List (List ℕ)
+  pub comments : AreComments body
+  pub parts : lines ≡ front ++ class_text (length old.classes) back ∷ body
+
+abbrev pub StandsIn : Stage → Draft → List (List ℕ) → Type 0
+StandsIn stage.Title d lines = HasItems 0 d lines
+StandsIn stage.Screen d lines = HasItems 1 d lines
+StandsIn stage.Buffers d lines = HasItems 2 d lines
+StandsIn stage.Desktop d lines = HasItems 3 d lines
+StandsIn stage.Body d lines = HasItems 4 d lines
+StandsIn stage.Block d lines = HasClass d lines
+
+abbrev pub Stands : Draft → List (List ℕ) → Type 0
+Stands d lines = StandsIn d.stage d lines
+
+start_stands : Stands empty_draft []
+start_stands = record { items = []; spelled = tt; before = refl; said = refl }
+
+-- ---- one item more
+
+push : (header next : ℕ) (d e : Draft) (lines block : List (List ℕ)) (item : Item) → HasItems header d lines → Spells (before_at header d) item block → after (before_at header d) item ≡ before_at next e → listing_with (listing_from d) item ≡ listing_from e → HasItems next e (lines ++ block)
+push header next d e lines block item has spells now said = record {
+  items = has.items ++ item ∷ [];
+  spelled = items_more Spells after nothing has.items item lines block has.spelled (subst (λ (b : Before). Spells b item block) (sym has.before) spells);
+  before = all_after_more after nothing has.items item ∙ ap (λ (b : Before). after b item) has.before ∙ now;
+  said = all_after_more listing_with empty_listing has.items item ∙ ap (λ (l : Listing). listing_with l item) has.said ∙ said;
+}
+
+with_comment : (header : ℕ) (d : Draft) (lines : List (List ℕ)) (line : List ℕ) → HasItems header d lines → is_comment line ≡ true → HasItems header d (lines ++ line ∷ [])
+with_comment header d lines line has is = record { items = has.items; spelled = items_comment Spells after nothing has.items lines line has.spelled is; before = has.before; said = has.said }
+
+comment_stands : (s : Stage) (d : Draft) (lines : List (List ℕ)) (line : List ℕ) → StandsIn s d lines → is_comment line ≡ true → StandsIn s d (lines ++ line ∷ [])
+comment_stands stage.Title d lines line has is = with_comment 0 d lines line has is
+comment_stands stage.Screen d lines line has is = with_comment 1 d lines line has is
+comment_stands stage.Buffers d lines line has is = with_comment 2 d lines line has is
+comment_stands stage.Desktop d lines line has is = with_comment 3 d lines line has is
+comment_stands stage.Body d lines line has is = with_comment 4 d lines line has is
+comment_stands stage.Block d lines line has is = record {
+  old = has.old;
+  front = has.front;
+  has = has.has;
+  early = has.early;
+  back = has.back;
+  counted = has.counted;
+  is = has.is;
+  body = has.body ++ line ∷ [];
+  comments = comments_more has.body line has.comments is;
+  parts = ap (λ (ls : List (List ℕ)). ls ++ line ∷ []) has.parts ∙ append_assoc has.front (class_text (length has.old.classes) has.back ∷ has.body) (line ∷ []);
+}
+
+-- ---- lines by their stage
+
+abbrev Next : Draft → List (List ℕ) → List ℕ → Type 0
+Next e lines line = Stands e (lines ++ line ∷ [])
+
+-- what a test lets through
+passed : (b : Bool) (d e : Draft) (why : Reason) → cond b (Ok d) (Err why) ≡ Ok e → (b ≡ true) × (d ≡ e)
+passed true d e why is = (refl, cc)
+passed false d e why is = absurd cc
+
+-- what a value lets through
+valued : {A : Type 0} (o : Option A) (why : Reason) (next : A → Draft) (e : Draft) → after_value o why next ≡ Ok e → (x : A) × (o ≡ Some x) × (next x ≡ e)
+valued None why next e is = absurd cc
+valued (Some x) why next e is = (x, refl, cc)
+
+title_stands : (d e : Draft) (lines : List (List ℕ)) (line : List ℕ) → HasItems 0 d lines → after_title d line ≡ Ok e → Next e lines line
+unfolding after_title
+title_stands d e lines line has is =
+    let p = passed (bytes_eq line (codes "mtgui 1")) (record d { stage = stage.Screen }) e (header_reason line) is in
+    subst (λ (x : Draft). Next x lines line) p.1 (push 0 1 d (record d { stage = stage.Screen }) lines (line ∷ []) Title has (refl, ap (λ (l : List ℕ). l ∷ []) (named line (codes "mtgui 1") p.0)) refl refl)
+
+screen_stands : (d e : Draft) (lines : List (List ℕ)) (line : List ℕ) → HasItems 1 d lines → after_screen d line ≡ Ok e → Next e lines line
+unfolding after_screen screen_in
+screen_stands d e lines line has is =
+    let v = valued (screen_in (words_of line)) (header_reason line) (λ sides. record d { stage = stage.Buffers; width = sides.0; height = sides.1.0 }) e is in
+    let t = line_values_take (codes "screen") screen_fields line v.0 v.1 in
+    subst (λ (x : Draft). Next x lines line) v.2 (push 1 2 d (record d { stage = stage.Buffers; width = v.0.0; height = v.0.1.0 }) lines (line ∷ []) (Screen v.0.0 v.0.1.0) has ((refl, ap (λ (l : List ℕ). l ∷ []) t.0), t.1) refl refl)
+
+buffers_stands : (d e : Draft) (lines : List (List ℕ)) (line : List ℕ) → HasItems 2 d lines → after_buffers d line ≡ Ok e → Next e lines line
+unfolding after_buffers
+buffers_stands d e lines line has is =
+    let p = passed (bytes_eq line (codes "buffers 1")) (record d { stage = stage.Desktop }) e (header_reason line) is in
+    subst (λ (x : Draft). Next x lines line) p.1 (push 2 3 d (record d { stage = stage.Desktop }) lines (line ∷ []) Buffers has (refl, ap (λ (l : List ℕ). l ∷ []) (named line (codes "buffers 1") p.0)) refl refl)
+
+one_class_more : (header : ℕ) (d e : Draft) (c : ℕ) → e.classes ≡ d.classes ++ c ∷ [] → e.lines ≡ d.lines → ◌≡◌ {A = Before} (record { header = header; classes = length d.classes + 1; calls = length d.lines }) (before_at header e)
+one_class_more header d e c classes lines = ap (λ (n : ℕ). record { header = header; classes = n; calls = length d.lines }) (sym (length-append d.classes (c ∷ [])) ∙ ap length (sym classes)) ∙ ap (λ (ls : List Line). record { header = header; classes = length e.classes; calls = length ls }) (sym lines)
+
+desktop_stands : (d e : Draft) (lines : List (List ℕ)) (line : List ℕ) → HasItems 3 d lines → after_desktop d line ≡ Ok e → Next e lines line
+unfolding after_desktop desktop_in
+desktop_stands d e lines line has is =
+    let v = valued (desktop_in (words_of line)) (header_reason line) (λ colour. record d { stage = stage.Body; classes = d.classes ++ colour.0 ∷ [] }) e is in
+    let t = line_values_take (codes "desktop") desktop_fields line v.0 v.1 in
+    let next : Draft = record d { stage = stage.Body; classes = d.classes ++ v.0.0 ∷ [] } in
+    subst (λ (x : Draft). Next x lines line) v.2 (push 3 4 d next lines (line ∷ []) (Desktop v.0.0) has ((refl, ap (λ (l : List ℕ). l ∷ []) t.0), t.1) (one_class_more 4 d next v.0.0 refl refl) refl)
+
+-- the line `end` of a class
+block_stands : (d e : Draft) (lines : List (List ℕ)) (line : List ℕ) → HasClass d lines → after_block d line ≡ Ok e → Next e lines line
+unfolding after_block
+block_stands d e lines line has is =
+    let p = passed (bytes_eq line (codes "end")) (record d { stage = stage.Body }) e (block_reason (words_of line)) is in
+    let first : List ℕ = class_text (length has.old.classes) has.back in
+    let next : Draft = record (opened has.old has.back) { stage = stage.Body } in
+    let same : next ≡ e = ap (λ (x : Draft). record x { stage = stage.Body }) (sym has.is) ∙ p.1 in
+    let block : List (List ℕ) = first ∷ has.body ++ codes "end" ∷ [] in
+    let all : has.front ++ block ≡ lines ++ line ∷ [] =
+    sym (append_assoc has.front (first ∷ has.body) (codes "end" ∷ [])) ∙ ap (λ (ls : List (List ℕ)). ls ++ codes "end" ∷ []) (sym has.parts) ∙ ap (λ (l : List ℕ). lines ++ l ∷ []) (sym (named line (codes "end") p.0)) in
+    subst (λ (x : Draft). Next x lines line) same (subst (HasItems 4 next) all (push 4 4 has.old next has.front block (ClassOf has.back) has.has
+    (record { header = refl; early = has.early; counted = has.counted; body = has.body; comments = has.comments; spelled = refl }) (one_class_more 4 has.old next has.back refl refl) refl))
+
+-- a call line
+one_call_more : (d : Draft) (l : Line) → ◌≡◌ {A = Before} (record { header = 4; classes = length d.classes; calls = length d.lines + 1 }) (before_at 4 (record d { lines = d.lines ++ l ∷ [] }))
+one_call_more d l = ap (λ (n : ℕ). record { header = 4; classes = length d.classes; calls = n }) (sym (length-append d.lines (l ∷ [])))
+
+call_stands : (d e : Draft) (lines : List (List ℕ)) (line : List ℕ) (l : Line) → d.stage ≡ stage.Body → HasItems 4 d lines → line_of (words_of line) ≡ Some l → after_call d line (Some l) ≡ Ok e → Next e lines line
+call_stands d e lines line l body has read is =
+    let p = passed (ltb (length d.lines) 400000) (record d { lines = d.lines ++ l ∷ [] }) e reason.Many is in
+    let few : length d.lines < 400000 = ltb-true _ _ p.0 in
+    let t = line_read line l read in
+    let next : Draft = record d { lines = d.lines ++ l ∷ [] } in
+    subst (λ (x : Draft). Next x lines line) p.1 (subst (λ (s : Stage). StandsIn s next (lines ++ line ∷ [])) (sym body)
+    (push 4 4 d next lines (line ∷ []) (CallOf l) has (record { header = refl; few = omega arith; fits = t.1; spelled = ap (λ (x : List ℕ). x ∷ []) t.0 }) (one_call_more d l) refl))
+
+-- a class's first line
+opening_stands : (d e : Draft) (lines : List (List ℕ)) (line : List ℕ) (words : List (List ℕ)) (o : Option (Values class_fields)) → HasItems 4 d lines → length d.lines ≡ 0 → words_of line ≡ codes "class" ∷ words → class_in words ≡ o → after_opening d o ≡ Ok e → Next e lines line
+unfolding class_in
+opening_stands d e lines line words None has early spelled read is = absurd cc
+opening_stands d e lines line words (Some vs) has early spelled read is =
+    let p = passed (eqb vs.0 (length d.classes)) (opened d vs.1.0) e reason.Asset is in
+    let number : vs.0 ≡ length d.classes = grind (arith, nat_tests, p.0) in
+    let t = values_take class_fields words vs read in
+    let text : line ≡ class_text vs.0 vs.1.0 = line_from_words line (codes "class" ∷ texts_of class_fields vs) (spelled ∙ ap (λ (ws : List (List ℕ)). codes "class" ∷ ws) t.0) in
+    subst (λ (x : Draft). Next x lines line) p.1 (record {
+      old = d;
+      front = lines;
+      has = has;
+      early = early;
+      back = vs.1.0;
+      counted = subst (λ (n : ℕ). AreIn class_fields (n, (vs.1.0, tt))) number t.1;
+      is = refl;
+      body = [];
+      comments = tt;
+      parts = ap (λ (l : List ℕ). lines ++ l ∷ []) (text ∙ ap (λ (n : ℕ). class_text n vs.1.0) number);
+    })
+
+class_stands : (d e : Draft) (lines : List (List ℕ)) (line : List ℕ) (words : List (List ℕ)) → HasItems 4 d lines → words_of line ≡ codes "class" ∷ words → after_class d words ≡ Ok e → Next e lines line
+unfolding after_class
+class_stands d e lines line words has spelled is =
+    elim (chosen (is_later_class words) (Err reason.Later) (cond (eqb (length d.lines) 0) (after_opening d (class_in words)) (Err reason.Late)) (Ok e) is) [
+      | inl later ↦ absurd (cc later.1)
+      | inr built ↦
+          elim (chosen (eqb (length d.lines) 0) (after_opening d (class_in words)) (Err reason.Late) (Ok e) built.1) [
+            | inl early ↦ opening_stands d e lines line words (class_in words) has (grind (arith, nat_tests, early.0)) spelled refl early.1
+            | inr late ↦ absurd (cc late.1)
+          ]
+    ]
+
+other_stands : (d e : Draft) (lines : List (List ℕ)) (line : List ℕ) (o : Option (List (List ℕ))) → HasItems 4 d lines → after_word (codes "class") (words_of line) ≡ o → after_other d line o ≡ Ok e → Next e lines line
+other_stands d e lines line None has read is = absurd cc
+other_stands d e lines line (Some words) has read is = class_stands d e lines line words has (after_word_takes (codes "class") (words_of line) words read) is
+
+body_by : (d e : Draft) (lines : List (List ℕ)) (line : List ℕ) (o : Option Line) → d.stage ≡ stage.Body → HasItems 4 d lines → line_of (words_of line) ≡ o → after_call d line o ≡ Ok e → Next e lines line
+body_by d e lines line None body has read is = other_stands d e lines line (after_word (codes "class") (words_of line)) has refl is
+body_by d e lines line (Some l) body has read is = call_stands d e lines line l body has read is
+
+body_stands : (d e : Draft) (lines : List (List ℕ)) (line : List ℕ) → d.stage ≡ stage.Body → HasItems 4 d lines → after_body d line ≡ Ok e → Next e lines line
+unfolding after_body
+body_stands d e lines line body has is = body_by d e lines line (line_of (words_of line)) body has refl is
+
+words_stand : (s : Stage) (d e : Draft) (lines : List (List ℕ)) (line : List ℕ) → d.stage ≡ s → StandsIn s d lines → after_words s d line ≡ Ok e → Next e lines line
+words_stand stage.Title d e lines line at has is = title_stands d e lines line has is
+words_stand stage.Screen d e lines line at has is = screen_stands d e lines line has is
+words_stand stage.Buffers d e lines line at has is = buffers_stands d e lines line has is
+words_stand stage.Desktop d e lines line at has is = desktop_stands d e lines line has is
+words_stand stage.Body d e lines line at has is = body_stands d e lines line at has is
+words_stand stage.Block d e lines line at has is = block_stands d e lines line has is
+
+-- ---- all lines
+
+-- what became of a line
+pub data Took (d : Draft) (line : List ℕ) (e : Draft) : Type 0 where
+  comment : is_comment line ≡ true → d ≡ e → Took d line e
+  other : is_comment line ≡ false → after_words d.stage d line ≡ Ok e → Took d line e
+
+ok_is : (d e : Draft) → ◌≡◌ {A = Result Draft Reason} (Ok d) (Ok e) → d ≡ e
+ok_is d e is = cc
+
+pub took : (d e : Draft) (line : List ℕ) → after_line d line ≡ Ok e → (is_printable line ≡ true) × Took d line e
+unfolding after_line
+took d e line is =
+    elim (chosen (is_printable line) (cond (is_comment line) (Ok d) (after_words d.stage d line)) (Err reason.Ascii) (Ok e) is) [
+      | inl printable ↦ (
+        printable.0,
+        elim (chosen (is_comment line) (Ok d) (after_words d.stage d line) (Ok e) printable.1) [
+          | inl skipped ↦ comment skipped.0 (ok_is d e skipped.1)
+          | inr words ↦ other words.0 words.1
+        ],
+      )
+      | inr bad ↦ absurd (cc bad.1)
+    ]
+
+line_stands : (d e : Draft) (lines : List (List ℕ)) (line : List ℕ) → Stands d lines → Took d line e → Stands e (lines ++ line ∷ [])
+line_stands d e lines line stands (comment is same) = subst (λ (x : Draft). Next x lines line) same (comment_stands d.stage d lines line stands is)
+line_stands d e lines line stands (other is words) = words_stand d.stage d e lines line refl stands words
+
+stands_after : (d e : Draft) (front lines : List (List ℕ)) → Stands d front → run after_line d lines ≡ Ok e → Stands e (front ++ lines)
+stands_after d e front [] stands is = subst (Stands e) (sym (append-nil front)) (subst (λ (x : Draft). Stands x front) (ok_is d e is) stands)
+stands_after d e front (line ∷ lines) stands is =
+    let next = on_ok (after_line d line) (λ next. run after_line next lines) e is in
+    subst (Stands e) (append_assoc front (line ∷ []) lines) (stands_after next.0 e (front ++ line ∷ []) lines (line_stands d next.0 front line stands (took d next.0 line next.1).1) next.2)
+
+pub printable_read : (d e : Draft) (lines : List (List ℕ)) → run after_line d lines ≡ Ok e → AllByRecursion (λ line. is_printable line ≡ true) lines
+printable_read d e [] is = tt
+printable_read d e (line ∷ lines) is =
+    let next = on_ok (after_line d line) (λ next. run after_line next lines) e is in
+    ((took d next.0 line next.1).0, printable_read next.0 e lines next.2)
+
+pub read_stands : (d : Draft) (lines : List (List ℕ)) → run after_line empty_draft lines ≡ Ok d → Stands d lines
+read_stands d lines is = stands_after empty_draft d [] lines start_stands is
+
+place_stands : (s : Stage) (d : Draft) (lines : List (List ℕ)) → StandsIn s d lines → StandsAt lines (place_at s d)
+place_stands stage.Title d lines has = record { items = has.items; spelled = has.spelled; before = has.before }
+place_stands stage.Screen d lines has = record { items = has.items; spelled = has.spelled; before = has.before }
+place_stands stage.Buffers d lines has = record { items = has.items; spelled = has.spelled; before = has.before }
+place_stands stage.Desktop d lines has = record { items = has.items; spelled = has.spelled; before = has.before }
+place_stands stage.Body d lines has = record { items = has.items; spelled = has.spelled; before = has.before }
+place_stands stage.Block d lines has = record {
+  front = has.front;
+  before = before_at 4 has.old;
+  whole = record { items = has.has.items; spelled = has.has.spelled; before = has.has.before };
+  header = refl;
+  early = has.early;
+  back = has.back;
+  counted = has.counted;
+  body = has.body;
+  comments = has.comments;
+  spelled = has.parts;
+}
+
+pub front_read : (d : Draft) (lines : List (List ℕ)) → run after_line empty_draft lines ≡ Ok d → IsFront lines (place_of d)
+front_read d lines is = (printable_read empty_draft d lines is, place_stands d.stage d lines (read_stands d lines is))

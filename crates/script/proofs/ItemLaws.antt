@@ -1,0 +1,157 @@
+-- Items are apart: each begins with a line that is no comment, by which it is known, and ends where its lines say.
+use Rattle.std.proofs.Common.{◌≡◌, ℕ, ◌<◌, ◌≤◌, true, false, List, [], ◌∷◌, ◌++◌, length, get_or, None, refl, sym, ap, ◌∙◌, arith, lit<, append_assoc}
+use Rattle.std.specs.Prelude.{bytes_eq, codes, is_some, if◌then◌else◌}
+use Rattle.std.specs.Fmt.{decimal}
+use Rattle.std.proofs.lemmas.Bool.Decides.{nat_tests}
+use Rattle.std.proofs.lemmas.Fmt.{decimal_is_IsNumeral}
+use Rattle.std.proofs.lemmas.Option.{same_Some}
+use Rattle.std.proofs.lemmas.Str.Parse.{digit_at}
+use Rattle.spelling.specs.Parts.{lines_of}
+use Rattle.spelling.specs.Words.{words_of, text_of_words, natural_in}
+use Rattle.spelling.specs.Fields.{Field, Values, texts_of, AreIn, is_word, are_fields, text_with}
+use Rattle.spelling.specs.Items.{is_comment, AreComments}
+use Rattle.spelling.proofs.CallerLemmas.{no_natural_in, natural_in_again, words_with, text_same, Without, same_block, AreApart, one_list}
+use Rattle.calls.specs.declared.line.Act.TheVariants as act
+use Rattle.calls.specs.declared.line.Line.{Line}
+use Rattle.calls.specs.declared.line.Line.TheVariants.{Task}
+use Rattle.calls.specs.Words.{text_of_line, words_of_call, LineFits}
+use Rattle.calls.proofs.CallerLemmas.{line_spelled, line_words_whole}
+use Rattle.script.specs.Scripts.{screen_fields, desktop_fields, class_fields, class_text, Item, Title, Screen, Buffers, Desktop, ClassOf, CallOf, Before, nothing, after, IsClassBlock, Spells, AreItemsOf, Script, script_for, listing_of, IsScript}
+
+-- ---- one text has one meaning
+
+line_same : (l m : Line) → LineFits l → LineFits m → text_of_line l ≡ text_of_line m → l ≡ m
+line_same l m fits also e = same_Some l m (sym (line_spelled (text_of_line l) l refl fits) ∙ line_spelled (text_of_line l) m e also)
+
+-- ---- first lines
+
+-- the kind of item that a first word begins
+abbrev tag_of_word : List ℕ → ℕ
+tag_of_word w =
+    if is_some (natural_in 1 16 w) then 5 else
+    if bytes_eq w (codes "mtgui") then 0 else
+    if bytes_eq w (codes "screen") then 1 else
+    if bytes_eq w (codes "buffers") then 2 else
+    if bytes_eq w (codes "desktop") then 3 else 4
+
+abbrev tag_of_words : List (List ℕ) → ℕ
+tag_of_words [] = 6
+tag_of_words (w ∷ ws) = tag_of_word w
+
+abbrev tag : Item → ℕ
+tag Title = 0
+tag (Screen w h) = 1
+tag Buffers = 2
+tag (Desktop colour) = 3
+tag (ClassOf back) = 4
+tag (CallOf l) = 5
+
+-- the first line tells the kind
+pub record Opens (item : Item) (block : List (List ℕ)) : Type 0 where
+  pub line : List ℕ
+  pub more : List (List ℕ)
+  pub is : block ≡ line ∷ more
+  pub known : tag_of_words (words_of line) ≡ tag item
+  pub shown : is_comment line ≡ false
+
+name_tag : (w : List ℕ) → 57 < get_or w 0 0 → natural_in 1 16 w ≡ None
+name_tag w other = no_natural_in 1 16 w other
+
+uncommented : (w : List ℕ) (ws : List (List ℕ)) → 0 < length w → 35 < get_or w 0 0 → is_comment (text_of_words (w ∷ ws)) ≡ false
+uncommented [] ws some other = absurd (omega arith)
+uncommented (b ∷ bs) [] some other = grind (arith, nat_tests)
+uncommented (b ∷ bs) (x ∷ xs) some other = grind (arith, nat_tests)
+
+opens_with : (item : Item) (block more : List (List ℕ)) (name : List ℕ) (fs : List Field) (vs : Values fs) → is_word name ≡ true → are_fields fs ≡ true → AreIn fs vs → 0 < length name → 57 < get_or name 0 0 → tag_of_word name ≡ tag item → block ≡ text_with name fs vs ∷ more → Opens item block
+opens_with item block more name fs vs whole fields are some other known is =
+    record { line = text_with name fs vs; more = more; is = is; known = ap tag_of_words (words_with name fs vs whole fields are) ∙ known; shown = uncommented name (texts_of fs vs) some (omega arith) }
+
+opens_call : (l : Line) (block : List (List ℕ)) → LineFits l → block ≡ text_of_line l ∷ [] → Opens (CallOf l) block
+opens_call (Task task (act.Call c)) block fits is =
+    let below : task ≤ 16 = fits.1 in
+    let k = decimal_is_IsNumeral task (omega arith) in
+    let d = digit_at (decimal task) 0 k.0.1 k.0.0 in
+    let number = natural_in_again 1 16 task fits.0 fits.1 (lit< tt) in
+    let known : tag_of_word (decimal task) ≡ 5 = rw number refl in
+    record { line = text_of_line (Task task (act.Call c)); more = []; is = is; known = ap tag_of_words (line_words_whole (Task task (act.Call c)) fits) ∙ known; shown = uncommented (decimal task) (words_of_call c) (omega arith) (omega arith) }
+
+pub opens : (b : Before) (item : Item) (block : List (List ℕ)) → Spells b item block → Opens item block
+opens b Title block is = record { line = codes "mtgui 1"; more = []; is = is.1; known = rw (name_tag (codes "mtgui") (lit< tt)) refl; shown = refl }
+opens b (Screen w h) block is = opens_with (Screen w h) block [] (codes "screen") screen_fields (w, (h, tt)) refl refl is.1 (lit< tt) (lit< tt) (rw (name_tag (codes "screen") (lit< tt)) refl) is.0.1
+opens b Buffers block is = record { line = codes "buffers 1"; more = []; is = is.1; known = rw (name_tag (codes "buffers") (lit< tt)) refl; shown = refl }
+opens b (Desktop colour) block is = opens_with (Desktop colour) block [] (codes "desktop") desktop_fields (colour, tt) refl refl is.1 (lit< tt) (lit< tt) (rw (name_tag (codes "desktop") (lit< tt)) refl) is.0.1
+opens b (ClassOf back) block is = opens_with (ClassOf back) block (is.body ++ codes "end" ∷ []) (codes "class") class_fields (b.classes, (back, tt)) refl refl is.counted (lit< tt) (lit< tt) (rw (name_tag (codes "class") (lit< tt)) refl) is.spelled
+opens b (CallOf l) block is = opens_call l block is.fits is.spelled
+
+-- ---- blocks
+
+-- blocks of one line each
+one_line : (xs bs ys cs : List (List ℕ)) (t u : List ℕ) → xs ≡ t ∷ [] → bs ≡ u ∷ [] → xs ++ ys ≡ bs ++ cs → (t ≡ u) × (ys ≡ cs)
+one_line xs bs ys cs t u is also e =
+    let same : t ∷ ys ≡ u ∷ cs = sym (ap (λ (ls : List (List ℕ)). ls ++ ys) is) ∙ e ∙ ap (λ (ls : List (List ℕ)). ls ++ cs) also in
+    (cc, cc)
+
+-- blocks to the line `end`
+to_end : (xs bs ys cs body other : List (List ℕ)) (t u : List ℕ) → Without (codes "end") body → Without (codes "end") other → xs ≡ t ∷ body ++ codes "end" ∷ [] → bs ≡ u ∷ other ++ codes "end" ∷ [] → xs ++ ys ≡ bs ++ cs → (t ≡ u) × (ys ≡ cs)
+to_end xs bs ys cs body other t u clear also is are e =
+    let same : t ∷ (body ++ codes "end" ∷ []) ++ ys ≡ u ∷ (other ++ codes "end" ∷ []) ++ cs = sym (ap (λ (ls : List (List ℕ)). ls ++ ys) is) ∙ e ∙ ap (λ (ls : List (List ℕ)). ls ++ cs) are in
+    let first : t ≡ u = cc in
+    let rest : (body ++ codes "end" ∷ []) ++ ys ≡ (other ++ codes "end" ∷ []) ++ cs = cc in
+    (first, (same_block (codes "end") body other ys cs clear also (sym (append_assoc body (codes "end" ∷ []) ys) ∙ rest ∙ append_assoc other (codes "end" ∷ []) cs)).1)
+
+-- no comment is the line `end`
+no_end : (line : List ℕ) → is_comment line ≡ true → line ≡ codes "end" → ⊥
+no_end line is e = let other : is_comment line ≡ false = ap is_comment e in absurd (cc (sym is ∙ other))
+
+pub comments_no_end : (body : List (List ℕ)) → AreComments body → Without (codes "end") body
+comments_no_end [] are = tt
+comments_no_end (line ∷ body) are = (no_end line are.0, comments_no_end body are.1)
+
+classes_apart : (b : Before) (back other : ℕ) (xs bs ys cs : List (List ℕ)) → IsClassBlock b back xs → IsClassBlock b other bs → xs ++ ys ≡ bs ++ cs → (ClassOf back ≡ ClassOf other) × (ys ≡ cs)
+classes_apart b back other xs bs ys cs is also e =
+    let parts = to_end xs bs ys cs is.body also.body (class_text b.classes back) (class_text b.classes other) (comments_no_end is.body is.comments) (comments_no_end also.body also.comments) is.spelled also.spelled e in
+    let head = text_same (codes "class") class_fields (b.classes, (back, tt)) (b.classes, (other, tt)) refl refl is.counted also.counted parts.0 in
+    (ap (λ (vs : Values class_fields). ClassOf vs.1.0) head, parts.1)
+
+screens_apart : (w h w' h' : ℕ) → AreIn screen_fields (w, (h, tt)) → AreIn screen_fields (w', (h', tt)) → text_with (codes "screen") screen_fields (w, (h, tt)) ≡ text_with (codes "screen") screen_fields (w', (h', tt)) → Screen w h ≡ Screen w' h'
+screens_apart w h w' h' is also e = ap (λ (vs : Values screen_fields). Screen vs.0 vs.1.0) (text_same (codes "screen") screen_fields (w, (h, tt)) (w', (h', tt)) refl refl is also e)
+
+desktops_apart : (c d : ℕ) → AreIn desktop_fields (c, tt) → AreIn desktop_fields (d, tt) → text_with (codes "desktop") desktop_fields (c, tt) ≡ text_with (codes "desktop") desktop_fields (d, tt) → Desktop c ≡ Desktop d
+desktops_apart c d is also e = ap (λ (vs : Values desktop_fields). Desktop vs.0) (text_same (codes "desktop") desktop_fields (c, tt) (d, tt) refl refl is also e)
+
+-- ---- items of one kind
+
+apart_by : (b : Before) (i j : Item) (xs bs ys cs : List (List ℕ)) → tag i ≡ tag j → Spells b i xs → Spells b j bs → xs ++ ys ≡ bs ++ cs → (i ≡ j) × (ys ≡ cs)
+apart_by b Title Title xs bs ys cs kind is also e = (refl, (one_line xs bs ys cs _ _ is.1 also.1 e).1)
+apart_by b (Screen w h) (Screen w' h') xs bs ys cs kind is also e =
+    let parts = one_line xs bs ys cs _ _ is.0.1 also.0.1 e in
+    (screens_apart w h w' h' is.1 also.1 parts.0, parts.1)
+apart_by b Buffers Buffers xs bs ys cs kind is also e = (refl, (one_line xs bs ys cs _ _ is.1 also.1 e).1)
+apart_by b (Desktop c) (Desktop d) xs bs ys cs kind is also e =
+    let parts = one_line xs bs ys cs _ _ is.0.1 also.0.1 e in
+    (desktops_apart c d is.1 also.1 parts.0, parts.1)
+apart_by b (ClassOf back) (ClassOf other) xs bs ys cs kind is also e = classes_apart b back other xs bs ys cs is also e
+apart_by b (CallOf l) (CallOf m) xs bs ys cs kind is also e =
+    let parts = one_line xs bs ys cs _ _ is.spelled also.spelled e in
+    (ap CallOf (line_same l m is.fits also.fits parts.0), parts.1)
+apart_by b i j xs bs ys cs kind is also e = absurd (omega arith)
+
+same_tag : (b : Before) (i j : Item) (xs bs ys cs : List (List ℕ)) → Spells b i xs → Spells b j bs → xs ++ ys ≡ bs ++ cs → tag i ≡ tag j
+same_tag b i j xs bs ys cs is also e =
+    let o = opens b i xs is in
+    let p = opens b j bs also in
+    let lines : o.line ∷ o.more ++ ys ≡ p.line ∷ p.more ++ cs = sym (ap (λ (ls : List (List ℕ)). ls ++ ys) o.is) ∙ e ∙ ap (λ (ls : List (List ℕ)). ls ++ cs) p.is in
+    let line : o.line ≡ p.line = cc in
+    sym o.known ∙ ap (λ (l : List ℕ). tag_of_words (words_of l)) line ∙ p.known
+
+items_apart : AreApart Spells
+items_apart = record {
+  begins = λ b item block is. let o = opens b item block is in (o.line, o.more, o.is, o.shown);
+  apart = λ b i j xs bs ys cs is also e. apart_by b i j xs bs ys cs (same_tag b i j xs bs ys cs is also e) is also e;
+}
+
+pub one_items : (lines : List (List ℕ)) (is js : List Item) → AreItemsOf is lines → AreItemsOf js lines → is ≡ js
+one_items lines is js a b = one_list Spells after items_apart nothing is js lines a b
+
+pub one_script : (file : List ℕ) (s t : Script) → IsScript file s → IsScript file t → s ≡ t
+one_script file s t a b = a.is ∙ ap (λ (items : List Item). script_for (listing_of items)) (one_items (lines_of file) a.items b.items a.spelled b.spelled) ∙ sym b.is

@@ -1,0 +1,333 @@
+-- Why a draft doesn't take a line: the first reason that may be held against it.
+use Rattle.std.proofs.Common.{◌≡◌, ℕ, ◌<◌, ◌≤◌, Bool, true, false, cond, ◌&&◌, ◌||◌, eqb, ltb, List, [], ◌∷◌, ◌++◌, length, get_or, Option, Some, None, Ok, Err, refl, sym, ap, subst, ◌∙◌, inl, inr, arith, lit<}
+use Rattle.std.specs.Prelude.{is_some, bytes_eq, codes}
+use Rattle.std.specs.Fmt.{decimal, digits}
+use Rattle.std.proofs.Math.Bool.{or-false}
+use Rattle.std.proofs.lemmas.Bool.{cases_Bool}
+use Rattle.std.proofs.lemmas.Bool.Decides.{nat_tests}
+use Rattle.std.proofs.lemmas.Option.{none-some}
+use Rattle.spelling.specs.Parts.{is_printable}
+use Rattle.spelling.specs.Words.{words_of, after_word, begins_with, natural_in}
+use Rattle.spelling.specs.Fields.{Values}
+use Rattle.spelling.specs.Items.{is_comment}
+use Rattle.spelling.proofs.CallerLemmas.{chosen, named, after_word_takes, no_natural_in, natural_in_again, one_first}
+use Rattle.calls.specs.declared.call.Call.{Call}
+use Rattle.calls.specs.declared.call.Call.TheVariants as call
+use Rattle.calls.specs.declared.line.Act.TheVariants as act
+use Rattle.calls.specs.declared.line.Line.{Line}
+use Rattle.calls.specs.declared.line.Line.TheVariants.{Task}
+use Rattle.calls.specs.Words.{name_of_word, line_of, line_words, words_of_call, LineFits}
+use Rattle.calls.proofs.CallerLemmas.{line_words_whole, line_read, line_spelled}
+use Rattle.script.specs.declared.draft.Stage.{Stage}
+use Rattle.script.specs.declared.draft.Stage.TheVariants as stage
+use Rattle.script.specs.declared.fault.Reason.{Reason}
+use Rattle.script.specs.declared.fault.Reason.TheVariants as reason
+use Rattle.script.specs.Fields.{class_in}
+use Rattle.script.specs.Later.{is_one_of, begins_with_one_of, later_words, later_in_block, later_calls, is_later_class, is_later_call}
+use Rattle.script.specs.Scripts.{Before, class_fields}
+use Rattle.script.specs.Faults.{Place, Between, InClass, is_later, is_later_in_header, is_later_elsewhere, IsCallLine, opens_class, Holds, rank, Why}
+use Rattle.script.specs.Reading.{Draft, after_value, after_title, after_screen, after_buffers, after_desktop, after_block, after_opening, after_class, after_other, after_call, after_body, after_words, after_line, before_at, place_at, place_of, header_reason, block_reason, call_reason}
+use Rattle.script.specs.Fields.{screen_in, desktop_in}
+use Rattle.script.proofs.DraftLaws.{opened}
+
+-- ---- forms that are built
+
+not_named : (n : ℕ) (name : List ℕ) → 1 ≤ n → n ≤ 16 → 57 < get_or name 0 0 → bytes_eq name (decimal n) ≡ false
+not_named n name some few first =
+    elim (cases_Bool (bytes_eq name (decimal n))) [
+      | inl same ↦ absurd (none-some n (sym (no_natural_in 1 16 name first) ∙ ap (natural_in 1 16) (named name (decimal n) same) ∙ natural_in_again 1 16 n some few (lit< tt)))
+      | inr other ↦ other
+    ]
+
+task_is_built : (n : ℕ) → 1 ≤ n → n ≤ 16 → is_one_of later_words (decimal n) ≡ false
+unfolding is_one_of later_words
+task_is_built n some few =
+    rw (not_named n (codes "font") some few (lit< tt), not_named n (codes "bitmap") some few (lit< tt), not_named n (codes "string") some few (lit< tt), not_named n (codes "display") some few (lit< tt), not_named n (codes "viewer") some few (lit< tt), not_named n (codes "done") some few (lit< tt)) refl
+
+-- no word of the table is among those that aren't built
+call_is_built : (c : Call) → is_later_call (words_of_call c) ≡ false
+unfolding is_one_of later_calls name_of_word digits
+call_is_built call.Exec = refl
+call_is_built c = refl
+
+class_is_no_task : natural_in 1 16 (codes "class") ≡ None
+class_is_no_task = no_natural_in 1 16 (codes "class") (lit< tt)
+
+task_is_no_class : (task : ℕ) → 1 ≤ task → task ≤ 16 → bytes_eq (decimal task) (codes "class") ≡ false
+task_is_no_class task some few =
+    elim (cases_Bool (bytes_eq (decimal task) (codes "class"))) [
+      | inl same ↦ absurd (none-some task (sym class_is_no_task ∙ ap (natural_in 1 16) (sym (named (decimal task) (codes "class") same)) ∙ natural_in_again 1 16 task some few (lit< tt)))
+      | inr other ↦ other
+    ]
+
+words_are_built : (l : Line) → LineFits l → is_later_elsewhere (line_words l) ≡ false
+words_are_built (Task task (act.Call c)) fits =
+    rw (task_is_built task fits.0 fits.1, task_is_no_class task fits.0 fits.1, natural_in_again 1 16 task fits.0 fits.1 (lit< tt), call_is_built c) refl
+
+words_open_no_class : (l : Line) → LineFits l → begins_with (codes "class") (line_words l) ≡ false
+words_open_no_class (Task task (act.Call c)) fits = task_is_no_class task fits.0 fits.1
+
+-- a call line is of a built form, and opens no class
+line_is_built : (text : List ℕ) (l : Line) → line_of (words_of text) ≡ Some l → is_later_elsewhere (words_of text) ≡ false
+line_is_built text l read =
+    let t = line_read text l read in
+    ap (λ (x : List ℕ). is_later_elsewhere (words_of x)) t.0 ∙ ap is_later_elsewhere (line_words_whole l t.1) ∙ words_are_built l t.1
+
+line_opens_no_class : (text : List ℕ) (l : Line) → line_of (words_of text) ≡ Some l → opens_class text ≡ false
+line_opens_no_class text l read =
+    let t = line_read text l read in
+    ap (λ (x : List ℕ). begins_with (codes "class") (words_of x)) t.0 ∙ ap (begins_with (codes "class")) (line_words_whole l t.1) ∙ words_open_no_class l t.1
+
+class_word_is_built : is_one_of later_words (codes "class") ≡ false
+unfolding is_one_of later_words
+class_word_is_built = refl
+
+class_later : (fields : List (List ℕ)) → is_later_class fields ≡ true → is_later_elsewhere (codes "class" ∷ fields) ≡ true
+class_later fields later = rw (class_word_is_built, later) refl
+
+class_built : (fields : List (List ℕ)) → is_later_class fields ≡ false → is_later_elsewhere (codes "class" ∷ fields) ≡ false
+class_built fields built = rw (class_word_is_built, built, class_is_no_task) refl
+
+-- ---- the first reason at each place
+
+at_odds : (b : Bool) → b ≡ true → b ≡ false → ⊥
+at_odds b is other = absurd (cc (sym is ∙ other))
+
+ascii_first : (place : Place) (line : List ℕ) → is_printable line ≡ false → Why place line reason.Ascii
+ascii_first (Between b) line bad = (bad, earlier) where
+  earlier : (e : Reason) → rank e < 1 → Holds (Between b) line e → ⊥
+  earlier reason.TooLarge less h = h
+  earlier e less h = absurd (omega arith)
+ascii_first InClass line bad = (bad, earlier) where
+  earlier : (e : Reason) → rank e < 1 → Holds InClass line e → ⊥
+  earlier reason.TooLarge less h = h
+  earlier e less h = absurd (omega arith)
+
+later_first : (place : Place) (line : List ℕ) → is_printable line ≡ true → is_later place line ≡ true → Why place line reason.Later
+later_first (Between b) line printable later = (later, earlier) where
+  earlier : (e : Reason) → rank e < 2 → Holds (Between b) line e → ⊥
+  earlier reason.TooLarge less h = h
+  earlier reason.Ascii less h = at_odds (is_printable line) printable h
+  earlier e less h = absurd (omega arith)
+later_first InClass line printable later = (later, earlier) where
+  earlier : (e : Reason) → rank e < 2 → Holds InClass line e → ⊥
+  earlier reason.TooLarge less h = h
+  earlier reason.Ascii less h = at_odds (is_printable line) printable h
+  earlier e less h = absurd (omega arith)
+
+block_first : (line : List ℕ) → is_printable line ≡ true → is_later InClass line ≡ false → Why InClass line reason.Block
+block_first line printable built = (tt, earlier) where
+  earlier : (e : Reason) → rank e < 4 → Holds InClass line e → ⊥
+  earlier reason.TooLarge less h = h
+  earlier reason.Ascii less h = at_odds (is_printable line) printable h
+  earlier reason.Later less h = at_odds (is_later InClass line) h built
+  earlier reason.Header less h = h
+  earlier e less h = absurd (omega arith)
+
+header_first : (b : Before) (line : List ℕ) → is_printable line ≡ true → is_later (Between b) line ≡ false → b.header < 4 → Why (Between b) line reason.Header
+header_first b line printable built header = (header, earlier) where
+  earlier : (e : Reason) → rank e < 3 → Holds (Between b) line e → ⊥
+  earlier reason.TooLarge less h = h
+  earlier reason.Ascii less h = at_odds (is_printable line) printable h
+  earlier reason.Later less h = at_odds (is_later (Between b) line) h built
+  earlier e less h = absurd (omega arith)
+
+-- after the header
+module _ (b : Before) (line : List ℕ) (printable : is_printable line ≡ true) (built : is_later (Between b) line ≡ false) (header : b.header ≡ 4) where
+  late_first : opens_class line ≡ true → 0 < b.calls → Why (Between b) line reason.Late
+  late_first opens some = ((header, opens, some), earlier) where
+    earlier : (e : Reason) → rank e < 5 → Holds (Between b) line e → ⊥
+    earlier reason.TooLarge less h = h
+    earlier reason.Ascii less h = at_odds (is_printable line) printable h
+    earlier reason.Later less h = at_odds (is_later (Between b) line) h built
+    earlier reason.Header less h = absurd (omega (arith, h, header))
+    earlier reason.Block less h = h
+    earlier e less h = absurd (omega arith)
+
+  asset_first : opens_class line ≡ true → b.calls ≡ 0 → Why (Between b) line reason.Asset
+  asset_first opens none = ((header, opens), earlier) where
+    earlier : (e : Reason) → rank e < 6 → Holds (Between b) line e → ⊥
+    earlier reason.TooLarge less h = h
+    earlier reason.Ascii less h = at_odds (is_printable line) printable h
+    earlier reason.Later less h = at_odds (is_later (Between b) line) h built
+    earlier reason.Header less h = absurd (omega (arith, h, header))
+    earlier reason.Block less h = h
+    earlier reason.Late less h = absurd (omega (arith, h.2, none))
+    earlier e less h = absurd (omega arith)
+
+  call_first : opens_class line ≡ false → (IsCallLine line → ⊥) → Why (Between b) line reason.Call
+  call_first closed none = ((header, none), earlier) where
+    earlier : (e : Reason) → rank e < 7 → Holds (Between b) line e → ⊥
+    earlier reason.TooLarge less h = h
+    earlier reason.Ascii less h = at_odds (is_printable line) printable h
+    earlier reason.Later less h = at_odds (is_later (Between b) line) h built
+    earlier reason.Header less h = absurd (omega (arith, h, header))
+    earlier reason.Block less h = h
+    earlier reason.Late less h = at_odds (opens_class line) h.1 closed
+    earlier reason.Asset less h = at_odds (opens_class line) h.1 closed
+    earlier e less h = absurd (omega arith)
+
+  many_first : opens_class line ≡ false → IsCallLine line → Why (Between b) line reason.Many
+  many_first closed is = ((header, is), earlier) where
+    earlier : (e : Reason) → rank e < 8 → Holds (Between b) line e → ⊥
+    earlier reason.TooLarge less h = h
+    earlier reason.Ascii less h = at_odds (is_printable line) printable h
+    earlier reason.Later less h = at_odds (is_later (Between b) line) h built
+    earlier reason.Header less h = absurd (omega (arith, h, header))
+    earlier reason.Block less h = h
+    earlier reason.Late less h = at_odds (opens_class line) h.1 closed
+    earlier reason.Asset less h = at_odds (opens_class line) h.1 closed
+    earlier reason.Call less h = h.1 is
+    earlier e less h = absurd (omega arith)
+
+-- ---- why a line isn't taken
+
+refused : (b : Bool) (d : Draft) (why other : Reason) → cond b (Ok d) (Err why) ≡ Err other → (b ≡ false) × (why ≡ other)
+refused true d why other is = absurd cc
+refused false d why other is = (refl, cc)
+
+valueless : {A : Type 0} (o : Option A) (why : Reason) (next : A → Draft) (other : Reason) → after_value o why next ≡ Err other → why ≡ other
+valueless None why next other is = cc
+valueless (Some x) why next other is = absurd cc
+
+by_test : (place : Place) (line : List ℕ) (b : Bool) (x y : Reason) → (b ≡ true → Why place line x) → (b ≡ false → Why place line y) → Why place line (cond b x y)
+by_test place line true x y is other = is refl
+by_test place line false x y is other = other refl
+
+header_why : (b : Before) (line : List ℕ) → is_printable line ≡ true → b.header < 4 → Why (Between b) line (header_reason line)
+header_why b line printable header =
+    let test : ltb b.header 4 ≡ true = grind (arith, nat_tests) in
+    let same : is_later (Between b) line ≡ is_later_in_header line = rw test refl in
+    by_test (Between b) line (is_later_in_header line) reason.Later reason.Header (λ later. later_first (Between b) line printable (same ∙ later)) (λ built. header_first b line printable (same ∙ built) header)
+
+title_why : (d : Draft) (line : List ℕ) (why : Reason) → is_printable line ≡ true → after_title d line ≡ Err why → Why (Between (before_at 0 d)) line why
+unfolding after_title
+title_why d line why printable is =
+    subst (Why (Between (before_at 0 d)) line) (refused (bytes_eq line (codes "mtgui 1")) (record d { stage = stage.Screen }) (header_reason line) why is).1 (header_why (before_at 0 d) line printable (lit< tt))
+
+screen_why : (d : Draft) (line : List ℕ) (why : Reason) → is_printable line ≡ true → after_screen d line ≡ Err why → Why (Between (before_at 1 d)) line why
+unfolding after_screen
+screen_why d line why printable is =
+    subst (Why (Between (before_at 1 d)) line) (valueless (screen_in (words_of line)) (header_reason line) (λ sides. record d { stage = stage.Buffers; width = sides.0; height = sides.1.0 }) why is) (header_why (before_at 1 d) line printable (lit< tt))
+
+buffers_why : (d : Draft) (line : List ℕ) (why : Reason) → is_printable line ≡ true → after_buffers d line ≡ Err why → Why (Between (before_at 2 d)) line why
+unfolding after_buffers
+buffers_why d line why printable is =
+    subst (Why (Between (before_at 2 d)) line) (refused (bytes_eq line (codes "buffers 1")) (record d { stage = stage.Desktop }) (header_reason line) why is).1 (header_why (before_at 2 d) line printable (lit< tt))
+
+desktop_why : (d : Draft) (line : List ℕ) (why : Reason) → is_printable line ≡ true → after_desktop d line ≡ Err why → Why (Between (before_at 3 d)) line why
+unfolding after_desktop
+desktop_why d line why printable is =
+    subst (Why (Between (before_at 3 d)) line) (valueless (desktop_in (words_of line)) (header_reason line) (λ colour. record d { stage = stage.Body; classes = d.classes ++ colour.0 ∷ [] }) why is) (header_why (before_at 3 d) line printable (lit< tt))
+
+block_why : (d : Draft) (line : List ℕ) (why : Reason) → is_printable line ≡ true → after_block d line ≡ Err why → Why InClass line why
+unfolding after_block
+block_why d line why printable is =
+    subst (Why InClass line) (refused (bytes_eq line (codes "end")) (record d { stage = stage.Body }) (block_reason (words_of line)) why is).1
+    (by_test InClass line (begins_with_one_of later_in_block (words_of line)) reason.Later reason.Block (later_first InClass line printable) (block_first line printable))
+
+-- ---- and after the header
+
+opening_why : (d : Draft) (o : Option (Values class_fields)) (why : Reason) → after_opening d o ≡ Err why → reason.Asset ≡ why
+opening_why d None why is = cc
+opening_why d (Some vs) why is = (refused (eqb vs.0 (length d.classes)) (opened d vs.1.0) reason.Asset why is).1
+
+class_why : (d : Draft) (line : List ℕ) (words : List (List ℕ)) (why : Reason) → is_printable line ≡ true → words_of line ≡ codes "class" ∷ words → after_class d words ≡ Err why → Why (Between (before_at 4 d)) line why
+unfolding after_class
+class_why d line words why printable spelled is =
+    let b : Before = before_at 4 d in
+    let opens : opens_class line ≡ true = ap (begins_with (codes "class")) spelled in
+    elim (chosen (is_later_class words) (Err reason.Later) (cond (eqb (length d.lines) 0) (after_opening d (class_in words)) (Err reason.Late)) (Err why) is) [
+      | inl later ↦
+          let same : reason.Later ≡ why = cc (later.1) in
+          subst (Why (Between b) line) same (later_first (Between b) line printable (ap is_later_elsewhere spelled ∙ class_later words later.0))
+      | inr built ↦
+          let form : is_later (Between b) line ≡ false = ap is_later_elsewhere spelled ∙ class_built words built.0 in
+          elim (chosen (eqb (length d.lines) 0) (after_opening d (class_in words)) (Err reason.Late) (Err why) built.1) [
+            | inl early ↦ subst (Why (Between b) line) (opening_why d (class_in words) why early.1) (asset_first b line printable form refl opens (grind (arith, nat_tests, early.0)))
+            | inr late ↦
+                let same : reason.Late ≡ why = cc (late.1) in
+                subst (Why (Between b) line) same (late_first b line printable form refl opens (grind (arith, nat_tests, late.0)))
+          ]
+    ]
+
+-- a line that is no call line, and opens no class
+or_false_between : (a c : Bool) → ((a || false) || c) ≡ (a || c)
+or_false_between a c = ap (λ (x : Bool). x || c) (or-false a)
+
+closed_words : (words : List (List ℕ)) → after_word (codes "class") words ≡ None → begins_with (codes "class") words ≡ false
+closed_words [] none = refl
+closed_words (first ∷ words) none =
+    elim (cases_Bool (bytes_eq first (codes "class"))) [
+      | inl same ↦ absurd (none-some words (sym none ∙ rw same refl))
+      | inr other ↦ other
+    ]
+
+call_reason_is : (words : List (List ℕ)) → begins_with (codes "class") words ≡ false → call_reason words ≡ cond (is_later_elsewhere words) reason.Later reason.Call
+call_reason_is [] closed = refl
+call_reason_is (first ∷ words) closed = rw closed (ap (λ (b : Bool). cond b reason.Later reason.Call) (sym (or_false_between (is_one_of later_words first) (is_some (natural_in 1 16 first) && is_later_call words))))
+
+no_call : (line : List ℕ) → line_of (words_of line) ≡ None → IsCallLine line → ⊥
+no_call line none is = none-some is.0 (sym none ∙ line_spelled line is.0 is.2 is.1)
+
+other_why : (d : Draft) (line : List ℕ) (o : Option (List (List ℕ))) (why : Reason) → is_printable line ≡ true → line_of (words_of line) ≡ None → after_word (codes "class") (words_of line) ≡ o → after_other d line o ≡ Err why → Why (Between (before_at 4 d)) line why
+other_why d line None why printable none read is =
+    let b : Before = before_at 4 d in
+    let closed : opens_class line ≡ false = closed_words (words_of line) read in
+    let same : call_reason (words_of line) ≡ why = cc in
+    subst (Why (Between b) line) (sym (call_reason_is (words_of line) closed) ∙ same)
+    (by_test (Between b) line (is_later_elsewhere (words_of line)) reason.Later reason.Call (later_first (Between b) line printable) (λ built. call_first b line printable built refl closed (no_call line none)))
+other_why d line (Some words) why printable none read is = class_why d line words why printable (after_word_takes (codes "class") (words_of line) words read) is
+
+body_why : (d : Draft) (line : List ℕ) (o : Option Line) (why : Reason) → is_printable line ≡ true → line_of (words_of line) ≡ o → after_call d line o ≡ Err why → Why (Between (before_at 4 d)) line why
+body_why d line None why printable read is = other_why d line (after_word (codes "class") (words_of line)) why printable read refl is
+body_why d line (Some l) why printable read is =
+    let b : Before = before_at 4 d in
+    let t = line_read line l read in
+    subst (Why (Between b) line) (refused (ltb (length d.lines) 400000) (record d { lines = d.lines ++ l ∷ [] }) reason.Many why is).1
+    (many_first b line printable (line_is_built line l read) refl (line_opens_no_class line l read) (l, t.1, t.0))
+
+call_why : (d : Draft) (line : List ℕ) (why : Reason) → is_printable line ≡ true → after_body d line ≡ Err why → Why (Between (before_at 4 d)) line why
+unfolding after_body
+call_why d line why printable is = body_why d line (line_of (words_of line)) why printable refl is
+
+words_why : (s : Stage) (d : Draft) (line : List ℕ) (why : Reason) → is_printable line ≡ true → after_words s d line ≡ Err why → Why (place_at s d) line why
+words_why stage.Title d line why printable is = title_why d line why printable is
+words_why stage.Screen d line why printable is = screen_why d line why printable is
+words_why stage.Buffers d line why printable is = buffers_why d line why printable is
+words_why stage.Desktop d line why printable is = desktop_why d line why printable is
+words_why stage.Body d line why printable is = call_why d line why printable is
+words_why stage.Block d line why printable is = block_why d line why printable is
+
+pub line_why : (d : Draft) (line : List ℕ) (why : Reason) → after_line d line ≡ Err why → Why (place_of d) line why
+unfolding after_line
+line_why d line why is =
+    elim (chosen (is_printable line) (cond (is_comment line) (Ok d) (after_words d.stage d line)) (Err reason.Ascii) (Err why) is) [
+      | inl printable ↦
+          elim (chosen (is_comment line) (Ok d) (after_words d.stage d line) (Err why) printable.1) [
+            | inl skipped ↦ absurd (cc skipped.1)
+            | inr words ↦ words_why d.stage d line why printable.0 words.1
+          ]
+      | inr bad ↦
+          let same : reason.Ascii ≡ why = cc (bad.1) in
+          subst (Why (place_of d) line) same (ascii_first (place_of d) line bad.0)
+    ]
+
+-- ---- one reason
+
+-- the rank tells the reason
+apart : (a b : Reason) → rank a ≡ rank b → a ≡ b
+apart reason.TooLarge reason.TooLarge e = refl
+apart reason.Ascii reason.Ascii e = refl
+apart reason.Later reason.Later e = refl
+apart reason.Header reason.Header e = refl
+apart reason.Block reason.Block e = refl
+apart reason.Late reason.Late e = refl
+apart reason.Asset reason.Asset e = refl
+apart reason.Call reason.Call e = refl
+apart reason.Many reason.Many e = refl
+apart reason.End reason.End e = refl
+apart a b e = absurd (omega arith)
+
+pub one_reason : (place : Place) (line : List ℕ) (r s : Reason) → Why place line r → Why place line s → r ≡ s
+one_reason place line r s is also = one_first rank (Holds place line) apart r s is also
