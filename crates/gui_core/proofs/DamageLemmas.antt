@@ -16,7 +16,7 @@ use Rattle.scene.specs.declared.win.Win.{Win}
 use Rattle.scene.specs.Places.{Place, place_of, place_at}
 use Rattle.scene.specs.Clips.{deepest_level, corner_of, corner_from, frame_of, clip_from, clip_of, outer_clip, corner_in}
 use Rattle.scene.specs.Painting.{Looks, windows_at, hides_behind, visible, painted_over, painted}
-use Rattle.scene.specs.Damage.{some_has, is_invalid_at, is_damaged, grown, invalidated}
+use Rattle.scene.specs.Damage.{some_has, is_invalid_at, is_damaged, grown, invalidated, area_invalidated}
 use Rattle.calls.specs.declared.call.Call.{Call}
 use Rattle.calls.specs.declared.call.Call.TheVariants.{Create, Exec, Scan}
 use Rattle.calls.specs.declared.entry.Entry.{Entry}
@@ -189,11 +189,11 @@ grown_has : (o : Option Rect) (r : Rect) (p : Point) → some_has o p ≡ true �
 grown_has None r p some = absurd (false≢true some)
 grown_has (Some old) r p some = let both = cover-smallest old r in both.first p some
 
-invalid_grows : (looks : Looks) (r : Rect) (p : Point) (w : Win) → is_invalid_at p w ≡ true → is_invalid_at p (invalidated looks r w) ≡ true
-invalid_grows looks r p w some =
-    elim (cases_Bool (is_empty (meet r (looks.clip w)))) [
+invalid_grows : (clip r : Rect) (p : Point) (w : Win) → is_invalid_at p w ≡ true → is_invalid_at p (invalidated clip r w) ≡ true
+invalid_grows clip r p w some =
+    elim (cases_Bool (is_empty (meet r clip))) [
       | inl e ↦ rw e some
-      | inr e ↦ rw e (grown_has w.invalid (meet r (looks.clip w)) p some)
+      | inr e ↦ rw e (grown_has w.invalid (meet r clip) p some)
     ]
 
 -- ---- create
@@ -207,7 +207,7 @@ first_has None r p none some = some
 first_has (Some old) r p none some = absurd cc
 
 -- the new window waits to be painted wherever it lies
-new_is_invalid : (looks : Looks) (w : Win) (p : Point) → w.invalid ≡ None → has (looks.clip w) p ≡ true → is_invalid_at p (invalidated looks (looks.clip w) w) ≡ true
+new_is_invalid : (looks : Looks) (w : Win) (p : Point) → w.invalid ≡ None → has (looks.clip w) p ≡ true → is_invalid_at p (invalidated (looks.clip w) (looks.clip w) w) ≡ true
 new_is_invalid looks w p none here =
     let inside : has (meet (looks.clip w) (looks.clip w)) p ≡ true = has-meet (looks.clip w) (looks.clip w) p ∙ both_true (has (looks.clip w) p) here in
     rw (is_empty-has (meet (looks.clip w) (looks.clip w)) p inside) (first_has w.invalid (meet (looks.clip w) (looks.clip w)) p none inside)
@@ -230,10 +230,10 @@ top_is_seen looks t (v ∷ ws) w h =
     ]
 
 -- the windows after a new one, and the damage where that one lies
-here_is_damaged : (looks : Looks) (ws : List Win) (w : Win) (p : Point) → Unseen looks (invalidated looks (looks.clip w)) → w.invalid ≡ None → has (looks.clip w) p ≡ true
-    → is_damaged looks (map (invalidated looks (looks.clip w)) (ws ++ w ∷ [])) p ≡ true
+here_is_damaged : (looks : Looks) (ws : List Win) (w : Win) (p : Point) → Unseen looks (λ v. invalidated (looks.clip v) (looks.clip w) v) → w.invalid ≡ None → has (looks.clip w) p ≡ true
+    → is_damaged looks (area_invalidated looks.clip (looks.clip w) (ws ++ w ∷ [])) p ≡ true
 here_is_damaged looks ws w p u none here =
-    let f : Win → Win = invalidated looks (looks.clip w) in
+    let f : Win → Win = λ v. invalidated (looks.clip v) (looks.clip w) v in
     ap (list_any (is_invalid_at p)) (visible_at-map looks f (ws ++ w ∷ []) p u)
     ∙ any-map (is_invalid_at p) f (visible looks (windows_at looks (ws ++ w ∷ []) p))
     ∙ ap (λ (vs : List Win). list_any (λ v. is_invalid_at p (f v)) (visible looks vs)) (windows_at-here looks ws w p here)
@@ -245,10 +245,10 @@ create_covers setup s w rooted none covers x y x_in y_in outside =
     let ws = s.windows in
     let old = looks_of setup ws in
     let looks = looks_of setup (ws ++ w ∷ []) in
-    let f : Win → Win = invalidated looks (looks.clip w) in
+    let f : Win → Win = λ v. invalidated (looks.clip v) (looks.clip w) v in
     let now = map f (ws ++ w ∷ []) in
-    let u = unseen_invalid setup (ws ++ w ∷ []) looks (looks.clip w) in
-    let same = looks_of-same setup now (ws ++ w ∷ []) (places-invalidated looks (looks.clip w) (ws ++ w ∷ [])) in
+    let u = unseen_invalid setup (ws ++ w ∷ []) looks.clip (looks.clip w) in
+    let same = looks_of-same setup now (ws ++ w ∷ []) (places-invalidated looks.clip (looks.clip w) (ws ++ w ∷ [])) in
     let undamaged : is_damaged looks now p ≡ false = sym (ap (λ (k : Looks). is_damaged k now p) same) ∙ outside in
     elim (cases_Bool (has (looks.clip w) p)) [
       | inl here ↦ absurd (false≢true (sym undamaged ∙ here_is_damaged looks ws w p u none here))
@@ -257,7 +257,7 @@ create_covers setup s w rooted none covers x y x_in y_in outside =
           let before : is_damaged old ws p ≡ false = elim (cases_Bool (is_damaged old ws p)) [
             | inl some ↦
                 let still : is_damaged looks (ws ++ w ∷ []) p ≡ true = ap (λ (vs : List Win). list_any (is_invalid_at p) (visible looks vs)) at ∙ some in
-                absurd (false≢true (sym undamaged ∙ damaged-map looks f (ws ++ w ∷ []) p u (invalid_grows looks (looks.clip w) p) still))
+                absurd (false≢true (sym undamaged ∙ damaged-map looks f (ws ++ w ∷ []) p u (λ v. invalid_grows (looks.clip v) (looks.clip w) p v) still))
             | inr none ↦ none
           ] in
           covers x y x_in y_in before
@@ -338,7 +338,7 @@ effect_holds setup s (Create x y w h class) is =
     let new = new_window s.next x y w h class in
     let looks = looks_of setup (s.windows ++ new ∷ []) in
     record {
-      rooted = rooted-places (s.windows ++ new ∷ []) (with_window setup s.windows new) (places-invalidated looks (looks.clip new) (s.windows ++ new ∷ [])) (rooted-push s.windows new refl is.rooted);
+      rooted = rooted-places (s.windows ++ new ∷ []) (with_window setup s.windows new) (places-invalidated looks.clip (looks.clip new) (s.windows ++ new ∷ [])) (rooted-push s.windows new refl is.rooted);
       covers = create_covers setup s new is.rooted refl is.covers;
       colours = is.colours;
       shown = is.shown;

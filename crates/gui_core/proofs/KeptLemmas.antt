@@ -11,8 +11,7 @@ use Rattle.gfx_base.specs.Rects.{is_empty, meet}
 use Rattle.frame.specs.Pictures.{Picture}
 use Rattle.scene.specs.declared.win.Win.{Win}
 use Rattle.scene.specs.Places.{Place, place_of, number_of, AreSingle}
-use Rattle.scene.specs.Painting.{Looks}
-use Rattle.scene.specs.Damage.{with_invalid, invalidated}
+use Rattle.scene.specs.Damage.{with_invalid, invalidated, area_invalidated}
 use Rattle.scene.specs.Looks.{IsPaintable}
 use Rattle.scene.proofs.CallerLemmas.{all-push}
 use Rattle.paint_ops.specs.Kinds.{Assets}
@@ -38,16 +37,16 @@ bare-job (w ∷ ws) =
       | inr valid ↦ rw valid (ap (λ (vs : List Win). bare w ∷ vs) (bare-job ws))
     ]
 
-bare-invalidated_one : (looks : Looks) (area : Rect) (w : Win) → bare (invalidated looks area w) ≡ bare w
-bare-invalidated_one looks area w =
-    elim (cases_Bool (is_empty (meet area (looks.clip w)))) [
+bare-invalidated : (clip area : Rect) (w : Win) → bare (invalidated clip area w) ≡ bare w
+bare-invalidated clip area w =
+    elim (cases_Bool (is_empty (meet area clip))) [
       | inl e ↦ rw e refl
       | inr e ↦ rw e refl
     ]
 
-pub bare-invalidated : (looks : Looks) (area : Rect) (ws : List Win) → map bare (map (invalidated looks area) ws) ≡ map bare ws
-bare-invalidated looks area [] = refl
-bare-invalidated looks area (w ∷ ws) = ap (λ (v : Win). v ∷ map bare (map (invalidated looks area) ws)) (bare-invalidated_one looks area w) ∙ ap (λ (vs : List Win). bare w ∷ vs) (bare-invalidated looks area ws)
+pub bare-area : (clip : Win → Rect) (area : Rect) (ws : List Win) → map bare (area_invalidated clip area ws) ≡ map bare ws
+bare-area clip area [] = refl
+bare-area clip area (w ∷ ws) = ap (λ (v : Win). v ∷ map bare (area_invalidated clip area ws)) (bare-invalidated (clip w) area w) ∙ ap (λ (vs : List Win). bare w ∷ vs) (bare-area clip area ws)
 
 -- what holds of windows whatever of them is invalid
 pub record Ignores (P : Win → Type 0) : Type 0 where
@@ -86,8 +85,8 @@ places-same ws vs e = sym (places-bare vs) ∙ ap (map place_of) e ∙ places-ba
 pub places-job : (ws : List Win) → map place_of (windows_after_job ws) ≡ map place_of ws
 places-job ws = places-same ws (windows_after_job ws) (bare-job ws)
 
-pub places-invalidated : (looks : Looks) (area : Rect) (ws : List Win) → map place_of (map (invalidated looks area) ws) ≡ map place_of ws
-places-invalidated looks area ws = places-same ws (map (invalidated looks area) ws) (bare-invalidated looks area ws)
+pub places-invalidated : (clip : Win → Rect) (area : Rect) (ws : List Win) → map place_of (area_invalidated clip area ws) ≡ map place_of ws
+places-invalidated clip area ws = places-same ws (area_invalidated clip area ws) (bare-area clip area ws)
 
 ignores_old : (next : ℕ) → Ignores (IsOld next)
 ignores_old next = record { more = λ w old. old; less = λ w old. old }
@@ -179,7 +178,7 @@ kept-create m w room now kept same few handle paintable =
     let looks = looks_of m.setup ws in
     let pushed : Machine = record m { state = record m.state { windows = ws; next = m.state.next + 1 } } in
     subst (IsKept (record m { state = after_create m.setup m.state w })) (sym same)
-    (kept-same pushed (with_window m.setup m.state.windows w) m.state.shown room (kept-push m w room kept few handle paintable) (bare-invalidated looks (looks.clip w) ws) refl refl)
+    (kept-same pushed (with_window m.setup m.state.windows w) m.state.shown room (kept-push m w room kept few handle paintable) (bare-area looks.clip (looks.clip w) ws) refl refl)
 
 -- ---- a job
 

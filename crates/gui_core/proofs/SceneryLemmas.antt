@@ -21,7 +21,7 @@ use Rattle.gui_core.specs.Windows.{is_bad_size, new_window, with_window}
 use Rattle.gui_core.specs.Jobs.{jobs_of}
 use Rattle.gui_core.specs.States.{State, Step, Objection, opening, objections, refusal_of, unless_refused, created, after_job, after_jobs, effect, step, state_after}
 use Rattle.gui_core.specs.Promises.{window_calls}
-use Rattle.gui_core.proofs.KeptLemmas.{bare, bare-job, bare-invalidated, length-same, places-same}
+use Rattle.gui_core.proofs.KeptLemmas.{bare, bare-job, bare-area, length-same, places-same}
 use Rattle.gui_core.proofs.VisibleLemmas.{looks_of-same, painted-map, unseen_valid}
 
 -- ---- a refused call
@@ -67,7 +67,7 @@ with_window-alike : (setup : Setup) (ws vs : List Win) (w : Win) → map bare ws
 with_window-alike setup ws vs w e =
     let left = looks_of setup (ws ++ w ∷ []) in
     let right = looks_of setup (vs ++ w ∷ []) in
-    bare-invalidated left (left.clip w) (ws ++ w ∷ []) ∙ bare-push ws vs w e ∙ sym (bare-invalidated right (right.clip w) (vs ++ w ∷ []))
+    bare-area left.clip (left.clip w) (ws ++ w ∷ []) ∙ bare-push ws vs w e ∙ sym (bare-area right.clip (right.clip w) (vs ++ w ∷ []))
 
 created_alike : (setup : Setup) (s t : State) (x y : ℤ) (w h class : ℕ) → AreAlike s t → AreAlike (created setup s (new_window s.next x y w h class)).state (created setup t (new_window t.next x y w h class)).state
 created_alike setup s t x y w h class e = record {

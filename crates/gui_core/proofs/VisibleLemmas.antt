@@ -83,11 +83,11 @@ looks_of-same setup ws vs e = ap (looks_with setup) (place_at-same ws vs e)
 pub unseen_valid : (setup : Setup) (ws : List Win) → Unseen (looks_of setup ws) (λ w. with_invalid w None)
 unseen_valid setup ws = record { clip = λ w. refl; opaque = λ w. refl; paint = λ w p behind. refl }
 
-pub unseen_invalid : (setup : Setup) (ws : List Win) (looks : Looks) (r : Rect) → Unseen (looks_of setup ws) (invalidated looks r)
-unseen_invalid setup ws looks r = record {
-  clip = λ w. elim (cases_Bool (is_empty (meet r (looks.clip w)))) [ inl e ↦ rw e refl | inr e ↦ rw e refl ];
-  opaque = λ w. elim (cases_Bool (is_empty (meet r (looks.clip w)))) [ inl e ↦ rw e refl | inr e ↦ rw e refl ];
-  paint = λ w p behind. elim (cases_Bool (is_empty (meet r (looks.clip w)))) [ inl e ↦ rw e refl | inr e ↦ rw e refl ];
+pub unseen_invalid : (setup : Setup) (ws : List Win) (clip : Win → Rect) (r : Rect) → Unseen (looks_of setup ws) (λ w. invalidated (clip w) r w)
+unseen_invalid setup ws clip r = record {
+  clip = λ w. elim (cases_Bool (is_empty (meet r (clip w)))) [ inl e ↦ rw e refl | inr e ↦ rw e refl ];
+  opaque = λ w. elim (cases_Bool (is_empty (meet r (clip w)))) [ inl e ↦ rw e refl | inr e ↦ rw e refl ];
+  paint = λ w p behind. elim (cases_Bool (is_empty (meet r (clip w)))) [ inl e ↦ rw e refl | inr e ↦ rw e refl ];
 }
 
 -- ---- visible windows

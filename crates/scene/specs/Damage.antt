@@ -48,14 +48,19 @@ grown (Some old) r = cover old r
 abbrev pub with_invalid : Win → Option Rect → Win
 with_invalid w r = record w { invalid = r }
 
--- the window with a rectangle made invalid, as far as it lies in the clip; as it was, where nothing
--- of it does
-abbrev pub invalidated : Looks → Rect → Win → Win
-invalidated looks r w =
-    if is_empty (meet r (looks.clip w)) then w
-    else with_invalid w (Some (grown w.invalid (meet r (looks.clip w))))
+-- the window with an area made invalid, as far as it lies in its clip; as it was, where nothing of
+-- it does
+abbrev pub invalidated : Rect → Rect → Win → Win
+invalidated clip area w =
+    if is_empty (meet area clip) then w
+    else with_invalid w (Some (grown w.invalid (meet area clip)))
 
--- the windows with areas of the screen made invalid in each, one after the other
-abbrev pub areas_invalidated : Looks → List Rect → List Win → List Win
-areas_invalidated looks [] ws = ws
-areas_invalidated looks (r ∷ rs) ws = areas_invalidated looks rs (map (invalidated looks r) ws)
+-- an area made invalid in each of the windows
+abbrev pub area_invalidated : (Win → Rect) → Rect → List Win → List Win
+area_invalidated clip area ws = map (λ w. invalidated (clip w) area w) ws
+
+-- areas made invalid in each of the windows, one after the other
+abbrev pub areas_invalidated : (Win → Rect) → List Rect → List Win → List Win
+areas_invalidated clip [] ws = ws
+areas_invalidated clip (area ∷ areas) ws =
+    areas_invalidated clip areas (area_invalidated clip area ws)
