@@ -3,4 +3,10 @@ mod PlaceLemmas
 mod DotLemmas
 mod PainterLemmas
 mod PathLemmas
+mod VisibleLemmas
+mod FollowLemmas
+mod TreeLemmas
+mod AreaLemmas
+mod ChangeLemmas
+mod BareLemmas
 pub mod CallerLemmas
