@@ -10,7 +10,8 @@ pub use Rattle.scene.proofs.BareLemmas.{bare, places-same, looks-same, length-sa
 pub use Rattle.scene.proofs.FollowLemmas.{DamageCovers-same, DamageCovers-then}
 pub use Rattle.scene.proofs.TreeLemmas.{below-away}
 pub use Rattle.scene.proofs.AreaLemmas.{places-area, AreasCover-areas}
-pub use Rattle.scene.proofs.ChangeLemmas.{AreasCover-away, AreasCover-adds, AreasCover-takes, AreasCover-changes, AreasCover-reorders, DamageCovers-alone, Adds-last, clips_have-found}
+pub use Rattle.scene.proofs.ChangeLemmas.{AreasCover-away, AreasCover-adds, AreasCover-takes, AreasCover-changes, AreasCover-reorders, DamageCovers-alone, clips_have-found}
+pub use Rattle.scene.proofs.ListLemmas.{Adds-midst, Adds-last, Changes-midst, TakesAway-filter, Reorders-top}
 
 -- what windows leave and then others is what all leave
 pub painted_over-append : (looks : Looks) (p : Point) (behind : ℕ) (ws vs : List Win) → painted_over looks p behind (ws ++ vs) ≡ painted_over looks p (painted_over looks p behind ws) vs

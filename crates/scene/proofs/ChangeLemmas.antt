@@ -3,10 +3,8 @@ use Rattle.std.proofs.Common.{◌≡◌, ℕ, Bool, true, false, ◌||◌, cond,
 use Rattle.std.specs.Prelude.{◌⊎◌}
 use Rattle.std.specs.List.{list_any, AllZip}
 use Rattle.std.proofs.Math.Path.{fun_ext}
-use Rattle.std.proofs.lemmas.Bool.{cases_Bool, or_left, or_right, or_cases, or_parts, eq-eqb, eqb-true, false≢true}
+use Rattle.std.proofs.lemmas.Bool.{cases_Bool, or_left, or_right, or_cases, or_parts, eqb-true, false≢true}
 use Rattle.std.proofs.lemmas.Bool.Decides.{nat_tests}
-use Rattle.std.proofs.lemmas.List.{append-nil}
-use Rattle.std.proofs.lemmas.List.Elements.{filter-append}
 use Rattle.gfx_base.specs.declared.point.Point.{Point}
 use Rattle.gfx_base.specs.declared.rect.Rect.{Rect}
 use Rattle.gfx_base.specs.Rects.{has}
@@ -53,10 +51,10 @@ AreasCover-away assets screen old new areas p inside finds stand =
 
 -- ---- what handles find
 
-no_place : (q : Place) → Some q ≡ None → ⊥
+pub no_place : (q : Place) → Some q ≡ None → ⊥
 no_place q e = cc
 
-same_place : (q r : Place) → Some q ≡ Some r → q ≡ r
+pub same_place : (q r : Place) → Some q ≡ Some r → q ≡ r
 same_place q r e = cc
 
 is_nothing : (screen : Rect) (ws : List Win) (p : Point) (handle : ℕ) → place_at ws handle ≡ None → IsAway screen ws p handle
@@ -86,7 +84,7 @@ one_area area p h = elim (or_cases (has area p) false h) [ inl own ↦ own | inr
 no_area : (area : Rect) (p : Point) → areas_have (area ∷ []) p ≡ false → has area p ≡ false
 no_area area p h = let parts = or_parts (has area p) false h in parts.0
 
-another : (one other : ℕ) → eqb one other ≡ false → one ≡ other → ⊥
+pub another : (one other : ℕ) → eqb one other ≡ false → one ≡ other → ⊥
 another one other differ same = grind (arith, nat_tests, differ, same)
 
 -- ---- one window more
@@ -202,32 +200,3 @@ DamageCovers-alone assets screen ws vs p all =
     let looks = looks_of assets screen ws in
     subst (λ (now : Looks). DamageCovers looks ws now vs p) (sym (looks_of-found assets screen vs ws (place_at-same vs ws (places-alone looks p ws vs all))))
     (DamageCovers-follow looks looks p ws vs (hides assets screen ws p) (hides assets screen ws p) (follow_alone assets screen ws p ws vs all))
-
--- ---- a window on top of all
-
-place_at-last : (ws : List Win) (w : Win) (handle : ℕ) → (handle ≡ w.handle → ⊥) → place_at (ws ++ w ∷ []) handle ≡ place_at ws handle
-place_at-last [] w handle differ = let other : eqb w.handle handle ≡ false = grind (arith, nat_tests, differ) in rw other refl
-place_at-last (v ∷ ws) w handle differ =
-    elim (cases_Bool (eqb v.handle handle)) [
-      | inl own ↦ rw own refl
-      | inr other ↦ rw other (place_at-last ws w handle differ)
-    ]
-
-place_at-own : (ws : List Win) (w : Win) → place_at ws w.handle ≡ None → place_at (ws ++ w ∷ []) w.handle ≡ Some (place_of w)
-place_at-own [] w unknown = rw (eq-eqb w.handle w.handle refl) refl
-place_at-own (v ∷ ws) w unknown =
-    elim (cases_Bool (eqb v.handle w.handle)) [
-      | inl own ↦ absurd (no_place (place_of v) (rw own at unknown))
-      | inr other ↦ rw other (place_at-own ws w (rw other at unknown))
-    ]
-
-one_fails : (test : Win → Bool) (w : Win) → test w ≡ false → filter test (w ∷ []) ≡ []
-one_fails test w fails = rw fails refl
-
-pub Adds-last : (ws : List Win) (w : Win) → place_at ws w.handle ≡ None → Adds ws (ws ++ w ∷ []) w
-Adds-last ws w unknown = record {
-  unknown = unknown;
-  found = place_at-own ws w unknown;
-  others = λ handle differ. place_at-last ws w handle differ;
-  rest = λ test fails. filter-append test ws (w ∷ []) ∙ ap (λ (vs : List Win). filter test ws ++ vs) (one_fails test w fails) ∙ append-nil (filter test ws);
-}

@@ -9,4 +9,5 @@ mod TreeLemmas
 mod AreaLemmas
 mod ChangeLemmas
 mod BareLemmas
+mod ListLemmas
 pub mod CallerLemmas

@@ -54,17 +54,21 @@ FindAlike screen old new p =
     → (place_at new handle ≡ place_at old handle)
     ⊎ (IsAway screen old p handle × IsAway screen new p handle)
 
--- whether a window lies below another one, whose handle this is: it is its child, or lies below its
--- child, on at most so many levels
+-- whether a window lies below another one, whose handle this is, at most so many levels down: its
+-- parent is that one, or lies below it
 abbrev pub lies_below : ℕ → (ℕ → Option Place) → ℕ → Place → Bool
 lies_below zero found handle q = false
 lies_below (suc levels) found handle q =
     not (q.parent == 0) && ((q.parent == handle)
     || option_map_or (lies_below levels found handle) (found q.parent) false)
 
--- whether one of the windows lies below the one that has the handle
+-- whether a window lies below the one of a list that has the handle
 abbrev pub is_below : List Win → ℕ → Place → Bool
 is_below ws handle q = lies_below deepest_level (place_at ws) handle q
+
+-- whether the window has the handle, or lies below the one that has it
+abbrev pub in_family : List Win → ℕ → Win → Bool
+in_family ws handle w = (w.handle == handle) || is_below ws handle (place_of w)
 
 -- what the handle finds, if anything, lies below the window that has the other handle
 abbrev pub LiesBelow : List Win → ℕ → ℕ → Type 0

@@ -1,19 +1,19 @@
 //! Laws of what windows see and of the damage, each as the contract of a function that does
 //! nothing.
 
-ghost use Rattle.std.specs.Prelude.{◌≡◌, ◌||◌, true, false, List, [], ◌∷◌, ◌++◌, length, Some, None};
+ghost use Rattle.std.specs.Prelude.{◌≡◌, ◌||◌, true, false, not, filter, List, [], ◌∷◌, ◌++◌, length, Some, None};
 ghost use Rattle.std.specs.List.{list_any, AllZip};
 ghost use Rattle.gfx_base.specs.declared.point.Point.{Point};
 ghost use Rattle.gfx_base.specs.declared.rect.Rect.{Rect};
 ghost use Rattle.gfx_base.specs.Rects.{has};
 ghost use Rattle.paint_ops.specs.Kinds.{Assets};
 ghost use Rattle.scene.specs.declared.win.Win.{Win};
-ghost use Rattle.scene.specs.Places.{place_of, place_at};
+ghost use Rattle.scene.specs.Places.{place_of, window_of, place_at, AreSingle};
 ghost use Rattle.scene.specs.Clips.{clip_in};
 ghost use Rattle.scene.specs.Painting.{Looks, windows_at, visible, painted_over, painted};
 ghost use Rattle.scene.specs.Damage.{is_invalid_at, windows_seeing, is_damaged, in_patch_at, with_invalid};
 ghost use Rattle.scene.specs.Looks.{looks_of};
-ghost use Rattle.scene.specs.Changes.{DamageCovers, AreasCover, areas_have, clips_have, FindAlike, is_below};
+ghost use Rattle.scene.specs.Changes.{DamageCovers, AreasCover, areas_have, clips_have, FindAlike, is_below, in_family};
 ghost use Rattle.scene.specs.Changes.{Adds, TakesAway, Changes, Reorders, ChangesAlone};
 
 /// Does nothing. The windows that see a point are the visible ones of those there, the point is
@@ -76,6 +76,24 @@ pub fn damage_covers_a_change_elsewhere()
         → windows_at (looks_of assets screen old) new p
         ≡ windows_at (looks_of assets screen old) old p)
         → AreasCover assets screen old new areas p }
+{}
+
+/// Does nothing. These are lists with a window more in any place, with one changed in its place,
+/// without one and all that lie below it, and with these on top of all others.
+pub fn lists_change_so()
+    ensures added { (before after : List Win) (w : Win)
+        → place_at (before ++ after) w.handle ≡ None
+        → Adds (before ++ after) (before ++ w ∷ after) w }
+    ensures changed { (before : List Win) (w v : Win) (after : List Win)
+        → v.handle ≡ w.handle → place_at before w.handle ≡ None
+        → Changes (before ++ w ∷ after) (before ++ v ∷ after) w v }
+    ensures taken_away { (ws : List Win) (w : Win)
+        → AreSingle ws → window_of ws w.handle ≡ Some w
+        → TakesAway ws (filter (λ v. not (in_family ws w.handle v)) ws) w }
+    ensures on_top { (ws : List Win) (w : Win)
+        → AreSingle ws → window_of ws w.handle ≡ Some w
+        → let others = filter (λ v. not (in_family ws w.handle v)) ws in
+        Reorders ws (others ++ filter (in_family ws w.handle) ws) w }
 {}
 
 /// Does nothing. The damage covers a new window, anywhere in the list, whose clip is made invalid.
