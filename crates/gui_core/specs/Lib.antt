@@ -3,5 +3,4 @@ pub mod Windows
 pub mod Jobs
 pub mod States
 pub mod Promises
-pub mod Areas
 pub mod Machines

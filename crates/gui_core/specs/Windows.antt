@@ -3,8 +3,8 @@ use Rattle.std.specs.Prelude.{ℕ, true, false, ◌||◌, nat_lt, ◌==◌, ℤ,
 use Rattle.gfx_base.specs.declared.rect.Rect.{Rect}
 use Rattle.scene.specs.declared.win.Win.{Win}
 use Rattle.scene.specs.Clips.{clip_in}
-use Rattle.scene.specs.Damage.{areas_invalidated}
-use Rattle.gui_core.specs.Setups.{Setup, screen_of, looks_of}
+use Rattle.scene.specs.Damage.{area_invalidated}
+use Rattle.gui_core.specs.Setups.{Setup, screen_of}
 
 -- whether a window can't have these sides, each from 1 to 4,096 points
 abbrev pub is_bad_size : ℕ → ℕ → Bool
@@ -48,4 +48,5 @@ desktop_with width height screen = record {
 abbrev pub with_window : Setup → List Win → Win → List Win
 with_window setup ws w =
     let now = ws ++ w ∷ [] in
-    areas_invalidated (looks_of setup now) (clip_in (screen_of setup) now w ∷ []) now
+    let clip = clip_in (screen_of setup) now in
+    area_invalidated clip (clip w) now

@@ -3,4 +3,11 @@ mod PlaceLemmas
 mod DotLemmas
 mod PainterLemmas
 mod PathLemmas
+mod VisibleLemmas
+mod FollowLemmas
+mod TreeLemmas
+mod AreaLemmas
+mod ChangeLemmas
+mod BareLemmas
+mod ListLemmas
 pub mod CallerLemmas

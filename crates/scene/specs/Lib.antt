@@ -4,3 +4,4 @@ pub mod Painting
 pub mod Damage
 pub mod Looks
 pub mod Paths
+pub mod Changes
