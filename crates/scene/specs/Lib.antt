@@ -4,3 +4,5 @@ pub mod Painting
 pub mod Damage
 pub mod Looks
 pub mod Paths
+pub mod Families
+pub mod Stacks

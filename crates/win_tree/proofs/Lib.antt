@@ -1,0 +1,9 @@
+mod SlotLemmas
+mod ForestLemmas
+mod LinkLemmas
+mod FreeLemmas
+mod FamilyLemmas
+mod TreeLemmas
+mod ChangeLemmas
+mod StackLemmas
+mod FilterLemmas

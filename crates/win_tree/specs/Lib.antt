@@ -1,0 +1,4 @@
+pub mod Links
+pub mod Forests
+pub mod Trees
+pub mod Refusals

@@ -1,0 +1,11 @@
+//! The windows of a screen as a tree of linked nodes, and their order from back to front.
+#![tactic(auto)]
+
+mod links;
+mod node;
+mod refused;
+mod search;
+mod tree;
+
+pub use refused::TreeRefused;
+pub use tree::Tree;
