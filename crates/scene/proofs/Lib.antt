@@ -3,4 +3,5 @@ mod PlaceLemmas
 mod DotLemmas
 mod PainterLemmas
 mod PathLemmas
+mod AncestorLemmas
 pub mod CallerLemmas

@@ -1,9 +1,9 @@
 -- Families of windows in a list from back to front, and what each call does to the list.
-use Rattle.std.specs.Prelude.{ℕ, Bool, true, false, ◌&&◌, ◌||◌, not, if◌then◌else◌, ◌==◌, ℤ, pos, List, [], ◌∷◌, ◌++◌, map, filter, replicate, Some, None, option_map, unwrap_or}
+use Rattle.std.specs.Prelude.{ℕ, zero, suc, Bool, true, false, ◌&&◌, ◌||◌, not, if◌then◌else◌, ◌==◌, ℤ, pos, List, [], ◌∷◌, ◌++◌, map, filter, replicate, Option, Some, None, option_map, unwrap_or}
 use Rattle.std.specs.List.{list_any}
 use Rattle.gfx_base.specs.declared.rect.Rect.{Rect}
 use Rattle.scene.specs.declared.win.Win.{Win}
-use Rattle.scene.specs.Places.{window_of}
+use Rattle.scene.specs.Places.{Place, window_of, parent_in}
 
 -- ---- families
 
@@ -33,6 +33,12 @@ is_in family w = has_handle w.handle family
 -- the handle of the window's parent
 unfoldable pub parent_of : ℕ → List Win → ℕ
 parent_of handle ws = unwrap_or (option_map (λ w. w.parent) (window_of ws handle)) 0
+
+-- where the ancestors of a window lie, so many at most, from its parent up
+abbrev pub places_above : ℕ → (ℕ → Option Place) → Place → List Place
+places_above zero found q = []
+places_above (suc n) found q =
+    unwrap_or (option_map (λ p. p ∷ places_above n found p) (parent_in found q)) []
 
 -- ---- what calls do to the list
 

@@ -1,9 +1,11 @@
 -- What is true of the windows of every tree, from back to front.
 use Rattle.std.specs.Prelude.{◌≡◌, ◌≢◌, ◌≤◌, ◌<◌, ℕ, zero, suc, Bool, true, false, ◌||◌, if◌then◌else◌, ◌==◌, nat_lt, pos, List, [], ◌∷◌, length, option_map, unwrap_or}
 use Rattle.std.specs.List.{AllByRecursion}
-use Rattle.gfx_base.specs.Rects.{is_empty}
+use Rattle.gfx_base.specs.declared.rect.Rect.{Rect}
+use Rattle.gfx_base.specs.Rects.{is_empty, no_points}
 use Rattle.scene.specs.declared.win.Win.{Win}
 use Rattle.scene.specs.Places.{window_of, AreSingle}
+use Rattle.scene.specs.Looks.{screen_with}
 
 -- ---- each window by itself
 
@@ -66,6 +68,11 @@ abbrev pub BeginWithDesktop : List Win → Type 0
 BeginWithDesktop [] = ⊥
 BeginWithDesktop (w ∷ ws) =
     (w.handle ≡ 1) × (w.parent ≡ 0) × IsDesktop w × AreInOrder (1 ∷ []) ws
+
+-- the screen that the desktop takes up, which is first
+abbrev pub screen_of : List Win → Rect
+screen_of [] = no_points
+screen_of (w ∷ ws) = screen_with w.w w.h
 
 -- ---- valid stacks
 
