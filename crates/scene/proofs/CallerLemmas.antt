@@ -5,7 +5,7 @@ use Rattle.scene.specs.declared.win.Win.{Win}
 use Rattle.scene.specs.Painting.{Looks, painted_over}
 pub use Rattle.scene.proofs.PlaceLemmas.{place_at-same, clips-same, has-clip_in}
 pub use Rattle.scene.proofs.PainterLemmas.{all-at, all-push, drawn_over, drawn_by, operations-more, over, windows-here, windows-away, corner_near}
-pub use Rattle.scene.proofs.AncestorLemmas.{LieAlike, lie_alike}
+pub use Rattle.scene.proofs.AncestorLemmas.{LieAlike, lie_alike, has-parent_clip}
 pub use Rattle.scene.proofs.PathLemmas.{window_of-single}
 pub use Rattle.scene.proofs.PainterLemmas.{one_more_place}
 

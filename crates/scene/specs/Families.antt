@@ -1,5 +1,5 @@
 -- Families of windows in a list from back to front, and what each call does to the list.
-use Rattle.std.specs.Prelude.{ℕ, zero, suc, Bool, true, false, ◌&&◌, ◌||◌, not, if◌then◌else◌, ◌==◌, ℤ, pos, List, [], ◌∷◌, ◌++◌, map, filter, replicate, Option, Some, None, option_map, unwrap_or}
+use Rattle.std.specs.Prelude.{◌≡◌, ℕ, zero, suc, Bool, true, false, ◌&&◌, ◌||◌, not, if◌then◌else◌, ◌==◌, ℤ, pos, List, [], ◌∷◌, ◌++◌, map, filter, replicate, Option, Some, None, option_map, unwrap_or}
 use Rattle.std.specs.List.{list_any}
 use Rattle.gfx_base.specs.declared.rect.Rect.{Rect}
 use Rattle.scene.specs.declared.win.Win.{Win}
@@ -33,6 +33,13 @@ is_in family w = has_handle w.handle family
 -- the handle of the window's parent
 unfoldable pub parent_of : ℕ → List Win → ℕ
 parent_of handle ws = unwrap_or (option_map (λ w. w.parent) (window_of ws handle)) 0
+
+-- a block of windows stands in one piece in a list, and without it the rest is left
+pub record StandsIn (block rest ws : List Win) : Type 0 where
+  pub before : List Win
+  pub after : List Win
+  pub whole : ws ≡ before ++ (block ++ after)
+  pub left : rest ≡ before ++ after
 
 -- where the ancestors of a window lie, so many at most, from its parent up
 abbrev pub places_above : ℕ → (ℕ → Option Place) → Place → List Place

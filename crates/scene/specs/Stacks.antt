@@ -37,6 +37,14 @@ pub record IsDesktop (w : Win) : Type 0 where
   pub class : w.class ≡ 0
   pub trans : w.trans ≡ false
 
+-- the second window may stand in the place of the first: it has its handle and its parent, and what
+-- each window has, also where it is the desktop
+pub record MayBecome (w v : Win) : Type 0 where
+  pub handle : v.handle ≡ w.handle
+  pub parent : v.parent ≡ w.parent
+  pub window : IsWindow v
+  pub desktop : v.handle ≡ 1 → IsDesktop v
+
 -- ---- levels
 
 -- whether the window has so many ancestors at least

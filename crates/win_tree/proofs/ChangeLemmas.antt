@@ -176,12 +176,12 @@ IsSplit-added old one desktop handles t key v tree vacant updates first handle p
       some = omega (arith, tree.some);
     }
 
-has_ancestors-step : (n : ℕ) (ws : List Win) (w : Win) → has_ancestors (suc n) ws w ≡ true → unwrap_or (option_map (has_ancestors n ws) (window_of ws w.parent)) false ≡ true
+pub has_ancestors-step : (n : ℕ) (ws : List Win) (w : Win) → has_ancestors (suc n) ws w ≡ true → unwrap_or (option_map (has_ancestors n ws) (window_of ws w.parent)) false ≡ true
 unfolding has_ancestors
 has_ancestors-step n ws w e = e
 
 -- a window with eight ancestors has a parent with seven
-deep_parent : (ws : List Win) (w : Win) → has_ancestors 8 ws w ≡ true → ((u : Win) → window_of ws w.parent ≡ Some u → has_ancestors 7 ws u ≡ true → ⊥) → ⊥
+pub deep_parent : (ws : List Win) (w : Win) → has_ancestors 8 ws w ≡ true → ((u : Win) → window_of ws w.parent ≡ Some u → has_ancestors 7 ws u ≡ true → ⊥) → ⊥
 deep_parent ws w deep no' = by_parent (window_of ws w.parent) refl (has_ancestors-step 7 ws w deep)
   where
     by_parent : (o : Option Win) → window_of ws w.parent ≡ o → unwrap_or (option_map (has_ancestors 7 ws) (window_of ws w.parent)) false ≡ true → ⊥

@@ -7,3 +7,7 @@ mod TreeLemmas
 mod ChangeLemmas
 mod StackLemmas
 mod FilterLemmas
+mod BlockLemmas
+mod ListLemmas
+mod ValidLemmas
+mod ClipLemmas

@@ -181,7 +181,7 @@ pub record HasParent (found : ℕ → Option Node) (t : Forest) (v p : Node) (pa
   pub child : v.win.parent ≡ p.win.handle
   pub inside : 1 ≤ among p.win.handle t
 
-AreChildren-on_top : (parent over' : ℕ) (v : Win) (inner t : Forest) → v.parent ≡ parent → AreChildren v.handle inner → AreChildren over' t → AreChildren over' (with_top parent v inner t)
+pub AreChildren-on_top : (parent over' : ℕ) (v : Win) (inner t : Forest) → v.parent ≡ parent → AreChildren v.handle inner → AreChildren over' t → AreChildren over' (with_top parent v inner t)
 AreChildren-on_top parent over' v inner Empty child family children = tt
 AreChildren-on_top parent over' v inner (Top w kids below) child family children =
     elim (cases_Bool (eqb w.handle parent)) [
@@ -193,7 +193,7 @@ AreChildren-ended : (over' : ℕ) (v : Win) (inner t : Forest) → v.parent ≡ 
 AreChildren-ended over' v inner Empty child family children = (child, family, tt)
 AreChildren-ended over' v inner (Top w kids below) child family children = (children.0, children.1, AreChildren-ended over' v inner below child family children.2)
 
-AreChildren-at_bottom : (parent over' : ℕ) (v : Win) (inner t : Forest) → v.parent ≡ parent → AreChildren v.handle inner → AreChildren over' t → AreChildren over' (with_bottom parent v inner t)
+pub AreChildren-at_bottom : (parent over' : ℕ) (v : Win) (inner t : Forest) → v.parent ≡ parent → AreChildren v.handle inner → AreChildren over' t → AreChildren over' (with_bottom parent v inner t)
 AreChildren-at_bottom parent over' v inner Empty child family children = tt
 AreChildren-at_bottom parent over' v inner (Top w kids below) child family children =
     elim (cases_Bool (eqb w.handle parent)) [
@@ -201,7 +201,7 @@ AreChildren-at_bottom parent over' v inner (Top w kids below) child family child
       | inr e ↦ rw e (children.0, AreChildren-at_bottom parent w.handle v inner kids child family children.1, AreChildren-at_bottom parent over' v inner below child family children.2)
     ]
 
-AreChildren-without : (h over' : ℕ) (t : Forest) → AreChildren over' t → AreChildren over' (without h t)
+pub AreChildren-without : (h over' : ℕ) (t : Forest) → AreChildren over' t → AreChildren over' (without h t)
 AreChildren-without h over' Empty children = tt
 AreChildren-without h over' (Top w kids below) children =
     elim (cases_Bool (eqb w.handle h)) [

@@ -1,6 +1,7 @@
 //! The windows of a screen as a tree of linked nodes, and their order from back to front.
 #![tactic(auto)]
 
+pub mod laws;
 mod links;
 mod node;
 mod refused;
