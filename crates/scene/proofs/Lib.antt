@@ -4,4 +4,5 @@ mod DotLemmas
 mod PainterLemmas
 mod PathLemmas
 mod AncestorLemmas
+mod StackLemmas
 pub mod CallerLemmas

@@ -11,11 +11,11 @@ use Rattle.scene.specs.Places.{Place, window_of, number_of, place_of, place_at, 
 use Rattle.scene.specs.Clips.{clip_in}
 use Rattle.scene.specs.Families.{family_of}
 use Rattle.scene.specs.Stacks.{IsWindow, IsStack}
-use Rattle.scene.proofs.CallerLemmas.{has-parent_clip}
+use Rattle.scene.proofs.CallerLemmas.{has-parent_clip, all_found}
 use Rattle.win_tree.specs.Forests.{Forest, Empty, Top, order, AreChildren}
 use Rattle.win_tree.proofs.StackLemmas.{AllBy-append, AllBy-first, AllBy-last}
 use Rattle.win_tree.proofs.BlockLemmas.{AllBy-block}
-use Rattle.win_tree.proofs.ValidLemmas.{IsPlaced, placed, fam_of, rest_of, block_in, family_is, window_of-win, all_found}
+use Rattle.win_tree.proofs.ValidLemmas.{IsPlaced, placed, fam_of, rest_of, block_in, family_is, window_of-win}
 
 -- a child's clip lies in its parent's
 child_clipped : (screen : Rect) (ws : List Win) (w v : Win) → window_of ws v.parent ≡ Some w → eqb v.parent 0 ≡ false → LiesIn (clip_in screen ws v) (clip_in screen ws w)

@@ -2,3 +2,4 @@ pub mod Links
 pub mod Forests
 pub mod Trees
 pub mod Refusals
+pub mod Examples

@@ -1,14 +1,15 @@
 //! Laws of the windows' list, each as the contract of a function that does nothing.
 
-ghost use Rattle.std.specs.Prelude.{◌≡◌, ◌≢◌, ◌<◌, ◌==◌, ℕ, Bool, true, false, if◌then◌else◌, List, [], ◌∷◌, map, filter, length, Some, None, pos};
+ghost use Rattle.std.specs.Prelude.{◌≡◌, ◌≢◌, ◌<◌, ◌==◌, ℕ, Bool, true, false, if◌then◌else◌, List, [], ◌∷◌, map, filter, length, Some, None};
 ghost use Rattle.std.specs.List.{AllByRecursion};
 ghost use Rattle.gfx_base.specs.declared.rect.Rect.{Rect};
 ghost use Rattle.gfx_base.specs.Rects.{LiesIn};
 ghost use Rattle.scene.specs.declared.win.Win.{Win};
 ghost use Rattle.scene.specs.Places.{window_of, place_of, place_at};
 ghost use Rattle.scene.specs.Clips.{clip_in, corner_in};
-ghost use Rattle.scene.specs.Families.{has_handle, family_of, without_family, on_top_of, raised, lowered, changed, new_window, places_above, StandsIn};
+ghost use Rattle.scene.specs.Families.{has_handle, family_of, without_family, on_top_of, raised, lowered, changed, places_above, StandsIn};
 ghost use Rattle.scene.specs.Stacks.{has_ancestors, IsStack, IsWindow, AreGiven, MayBecome};
+ghost use Rattle.win_tree.specs.Examples.{dot_in, small_tree, handles_of};
 
 /// Does nothing. In a valid stack a window and its descendants stand in one piece. Where they are
 /// raised or lowered they stand elsewhere among the same others, and a new window stands among
@@ -92,4 +93,16 @@ pub fn clips_depend_on_ancestors()
     ensures corner { (ws vs : List Win) (w : Win)
         → places_above 8 (place_at ws) (place_of w) ≡ places_above 8 (place_at vs) (place_of w)
         → corner_in ws w ≡ corner_in vs w }
+{}
+
+/// Does nothing. What the changes make of a small tree, told by handles: the desktop has 2, which
+/// has 3, and above it 4.
+pub fn changes_in_numbers()
+    ensures raised { handles_of (raised 2 small_tree) ≡ 1 ∷ 4 ∷ 2 ∷ 3 ∷ [] }
+    ensures lowered { handles_of (lowered 4 small_tree) ≡ 1 ∷ 4 ∷ 2 ∷ 3 ∷ [] }
+    ensures deleted { handles_of (without_family 2 small_tree) ≡ 1 ∷ 4 ∷ [] }
+    ensures created { handles_of (on_top_of 2 (dot_in 2 5 ∷ []) small_tree)
+        ≡ 1 ∷ 2 ∷ 3 ∷ 5 ∷ 4 ∷ [] }
+    ensures level { has_ancestors 2 small_tree (dot_in 2 3) ≡ true }
+    ensures no_deeper { has_ancestors 3 small_tree (dot_in 2 3) ≡ false }
 {}

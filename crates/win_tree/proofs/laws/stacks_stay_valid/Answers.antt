@@ -1,4 +1,5 @@
-use Rattle.win_tree.proofs.ValidLemmas.{placed, created_valid, without_valid, raised_valid, lowered_valid, changed_valid, mapped_valid}
+use Rattle.win_tree.proofs.ValidLemmas.{placed, created_valid, without_valid, raised_valid, lowered_valid}
+use Rattle.scene.proofs.CallerLemmas.{changed_valid, mapped_valid}
 use Rattle.win_tree.proofs.laws.stacks_stay_valid.Goals as goal
 
 pub returns-clause-created : goal.returns-clause-created
