@@ -1,5 +1,5 @@
 -- What of a window is made invalid.
-use Rattle.std.specs.Prelude.{ℤ, pos, neg_ℤ, ◌≤ℤ◌, Bool, List, is_some}
+use Rattle.std.specs.Prelude.{ℕ, ℤ, pos, neg_ℤ, ◌≤ℤ◌, Bool, List, is_some}
 use Rattle.gfx_base.specs.declared.rect.Rect.{Rect}
 use Rattle.gfx_base.specs.Rects.{shift}
 use Rattle.scene.specs.declared.win.Win.{Win}
@@ -25,3 +25,7 @@ IsShort z = (neg_ℤ (pos 32768) ≤ℤ z) × (z ≤ℤ pos 32767)
 -- the rectangle's numbers lie from −32,768 to 32,767
 abbrev pub IsLocal : Rect → Type 0
 IsLocal r = IsShort r.x0 × IsShort r.y0 × IsShort r.x1 × IsShort r.y1
+
+-- the rectangle with these corners
+abbrev pub corners : ℕ → ℕ → ℕ → ℕ → Rect
+corners x0 y0 x1 y1 = record { x0 = pos x0; y0 = pos y0; x1 = pos x1; y1 = pos y1 }

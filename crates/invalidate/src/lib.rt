@@ -3,6 +3,7 @@
 
 mod areas;
 mod clips;
+pub mod laws;
 mod windows;
 
 pub use areas::area;
