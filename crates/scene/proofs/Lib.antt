@@ -10,4 +10,6 @@ mod AreaLemmas
 mod ChangeLemmas
 mod BareLemmas
 mod ListLemmas
+mod AncestorLemmas
+mod StackLemmas
 pub mod CallerLemmas

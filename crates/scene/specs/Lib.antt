@@ -5,3 +5,5 @@ pub mod Damage
 pub mod Looks
 pub mod Paths
 pub mod Changes
+pub mod Families
+pub mod Stacks

@@ -1,0 +1,4 @@
+mod PathLemmas
+mod RectLemmas
+mod AreaLemmas
+mod LawLemmas

@@ -1,0 +1,2 @@
+pub mod Invalidation
+pub mod Paths

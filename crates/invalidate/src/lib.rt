@@ -1,0 +1,10 @@
+//! The part of each window that waits to be painted again: one rectangle, which grows.
+#![tactic(auto)]
+
+mod areas;
+mod clips;
+pub mod laws;
+mod windows;
+
+pub use areas::area;
+pub use windows::{first_invalid, rect, window};

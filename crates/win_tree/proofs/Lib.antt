@@ -1,0 +1,13 @@
+mod SlotLemmas
+mod ForestLemmas
+mod LinkLemmas
+mod FreeLemmas
+mod FamilyLemmas
+mod TreeLemmas
+mod ChangeLemmas
+mod StackLemmas
+mod FilterLemmas
+mod BlockLemmas
+mod ListLemmas
+mod ValidLemmas
+mod ClipLemmas
