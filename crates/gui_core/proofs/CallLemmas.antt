@@ -20,7 +20,9 @@ use Rattle.calls.specs.declared.reply.Reply.{Reply}
 use Rattle.calls.specs.declared.reply.Reply.TheVariants.{Handle, Refused}
 use Rattle.calls.specs.declared.reply.Refusal.{Refusal}
 use Rattle.gui_core.specs.Setups.{classes_with_desktop, assets_with_desktop, setup_for, screen_of}
-use Rattle.gui_core.specs.Windows.{is_bad_size, new_window, desktop_with}
+use Rattle.gui_core.specs.Windows.{new_child}
+use Rattle.scene.specs.Stacks.{is_bad_size}
+use Rattle.scene.specs.Families.{desktop_with}
 use Rattle.gui_core.specs.States.{State, objections, refusal_of, unless_refused, after_create, effect, step, is_refused}
 use Rattle.gui_core.specs.Machines.{Machine, IsConfig, IsKept, Takes, Answers, counted, starting}
 
@@ -55,17 +57,17 @@ may_be_made m x y w h class e =
     }
 
 pub created_takes : (m new : Machine) (next : ℕ) (x y : ℤ) (w h class : ℕ) (window : Win) → refusal_of (objections m.setup m.state (Create x y w h class)) ≡ None → new ≡ record m { state = after_create m.setup m.state window }
-    → window ≡ new_window m.state.next x y w h class → next ≡ m.state.next → Takes m (Create x y w h class) new (Handle next)
+    → window ≡ new_child m.state.next x y w h class → next ≡ m.state.next → Takes m (Create x y w h class) new (Handle next)
 created_takes m new next x y w h class window fine is made number = record {
   rest = is ∙ ap (λ (s : State). record m { state = s }) (sym (ap (λ (k : Machine). k.state) is));
   step =
       ap (λ (k : Machine). record { state = k.state; reply = Handle next }) is
       ∙ ap (λ (v : Win). record { state = after_create m.setup m.state v; reply = Handle next }) made
-      ∙ ap (λ (n : ℕ). record { state = after_create m.setup m.state (new_window m.state.next x y w h class); reply = Handle n }) number
+      ∙ ap (λ (n : ℕ). record { state = after_create m.setup m.state (new_child m.state.next x y w h class); reply = Handle n }) number
       ∙ sym (ap (λ o. unless_refused o m.state (effect m.setup m.state (Create x y w h class))) fine);
 }
 
-pub placed : (next : ℕ) (x y left top : ℤ) (w h class : ℕ) → x ≡ left → y ≡ top → new_window next x y w h class ≡ new_window next left top w h class
+pub placed : (next : ℕ) (x y left top : ℤ) (w h class : ℕ) → x ≡ left → y ≡ top → new_child next x y w h class ≡ new_child next left top w h class
 placed next x y left top w h class e f = rw (e, f) refl
 
 -- ---- all calls
@@ -125,8 +127,8 @@ one_handle : (b : Bool) → cond b 1 0 + 0 ≤ 1
 one_handle true = omega arith
 one_handle false = omega arith
 
-pub kept-starting : (assets : Assets) (config : Config) (room : ℕ) → IsConfig config → IsSound assets → 1 ≤ length assets.classes → 256 ≤ room → IsKept (starting assets config) room
-kept-starting assets config room is sound desktop roomy =
+pub kept-starting : (assets : Assets) (config : Config) → IsConfig config → IsSound assets → 1 ≤ length assets.classes → IsKept (starting assets config)
+kept-starting assets config is sound desktop =
     let count = length-with_desktop config.desktop assets.classes in
     record {
       config = is;
@@ -139,7 +141,6 @@ kept-starting assets config room is sound desktop roomy =
       old = (omega arith, tt);
       single = λ handle. one_handle _;
       paintable = (record { width = omega (arith, is.width.1); height = omega (arith, is.height.1); class = omega (arith, count, desktop) }, tt);
-      clips_room = roomy;
       made = omega arith;
       refused = omega arith;
     }

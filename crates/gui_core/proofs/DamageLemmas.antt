@@ -28,11 +28,13 @@ use Rattle.calls.specs.declared.reply.Refusal.{Refusal}
 use Rattle.frame.specs.Pictures.{Picture, picture_of, colour_at}
 use Rattle.frame.proofs.CallerLemmas.{colour_at-picture_of, colour_at-changed, changed-picture_of}
 use Rattle.gui_core.specs.Setups.{Setup, screen_of, looks_of, painter}
-use Rattle.gui_core.specs.Windows.{desktop_with, new_window, with_window}
-use Rattle.gui_core.specs.Jobs.{is_invalid, windows_after_job, picture_after_job, jobs_of}
+use Rattle.gui_core.specs.Windows.{new_child, with_window}
+use Rattle.scene.specs.Families.{desktop_with}
+use Rattle.invalidate.specs.Invalidation.{is_invalid}
+use Rattle.gui_core.specs.Jobs.{windows_after_job, picture_after_job, jobs_of}
 use Rattle.gui_core.specs.States.{State, Step, latest, opening, objections, refusal_of, unless_refused, after_create, after_job, after_jobs, effect, step, state_after}
 use Rattle.gui_core.specs.Machines.{IsOld}
-use Rattle.gui_core.specs.Promises.{DamageCovers, NoneInvalid}
+use Rattle.gui_core.specs.Promises.{IsRightOutsideDamage, NoneInvalid}
 use Rattle.gui_core.proofs.JobLemmas.{none_invalid, no_jobs, damage-job, windows-no_job}
 use Rattle.gui_core.proofs.KeptLemmas.{bare-job, all-same, ignores_old, older, jobs-step}
 
@@ -91,7 +93,7 @@ colour_at-job setup ws which p x y first x_in y_in =
 painted-job : (setup : Setup) (ws : List Win) (p : Point) → painted (looks_of setup (windows_after_job ws)) (windows_after_job ws) p ≡ painted (looks_of setup ws) ws p
 painted-job setup ws p = painted-same setup.assets (screen_of setup) ws (windows_after_job ws) p (bare-job ws)
 
-job_covers : (setup : Setup) (s : State) (o : Option ℕ) → position is_invalid s.windows ≡ o → IsPictured setup.config.w setup.config.h s.shown → DamageCovers setup s → DamageCovers setup (after_job setup s)
+job_covers : (setup : Setup) (s : State) (o : Option ℕ) → position is_invalid s.windows ≡ o → IsPictured setup.config.w setup.config.h s.shown → IsRightOutsideDamage setup s → IsRightOutsideDamage setup (after_job setup s)
 job_covers setup s None none is covers x y x_in y_in outside =
     let p : Point = point_at (pos x) (pos y) in
     let same = windows-no_job s.windows none in
@@ -120,7 +122,7 @@ unknown_handle handle (w ∷ ws) all =
     let other : eqb w.handle handle ≡ false = let old : w.handle < handle = all.0 in grind (arith, nat_tests) in
     rw other (unknown_handle handle ws all.1)
 
-create_covers : (setup : Setup) (s : State) (w : Win) → AllByRecursion (IsOld w.handle) s.windows → DamageCovers setup s → DamageCovers setup (after_create setup s w)
+create_covers : (setup : Setup) (s : State) (w : Win) → AllByRecursion (IsOld w.handle) s.windows → IsRightOutsideDamage setup s → IsRightOutsideDamage setup (after_create setup s w)
 create_covers setup s w old covers x y x_in y_in outside =
     let p : Point = point_at (pos x) (pos y) in
     let now = s.windows ++ w ∷ [] in
@@ -150,7 +152,7 @@ desktop_has setup x y x_in y_in =
     let in_frame : has frame (point_at (pos x) (pos y)) ≡ true = rw (on_axis setup.config.w x x_in, on_axis setup.config.h y y_in) refl in
     has-meet frame (screen_of setup) (point_at (pos x) (pos y)) ∙ and_from (has frame (point_at (pos x) (pos y))) (has (screen_of setup) (point_at (pos x) (pos y))) in_frame (on_screen setup x y x_in y_in)
 
-opening_covers : (setup : Setup) → DamageCovers setup (opening setup)
+opening_covers : (setup : Setup) → IsRightOutsideDamage setup (opening setup)
 opening_covers setup x y x_in y_in outside =
     absurd (false≢true (sym outside ∙ rw (desktop_has setup x y x_in y_in, on_screen setup x y x_in y_in) refl))
 
@@ -159,7 +161,7 @@ opening_covers setup x y x_in y_in outside =
 -- what holds after each call
 pub record Holds (setup : Setup) (s : State) : Type 0 where
   pub old : AllByRecursion (IsOld s.next) s.windows
-  pub covers : DamageCovers setup s
+  pub covers : IsRightOutsideDamage setup s
   pub shown : IsPictured setup.config.w setup.config.h s.shown
 
 opening_holds : (setup : Setup) → Holds setup (opening setup)
@@ -185,7 +187,7 @@ old_with_window setup ws w old =
 
 effect_holds : (setup : Setup) (s : State) (call : Call) → Holds setup s → Holds setup (effect setup s call).state
 effect_holds setup s (Create x y w h class) is =
-    let new = new_window s.next x y w h class in
+    let new = new_child s.next x y w h class in
     record {
       old = old_with_window setup s.windows new is.old;
       covers = create_covers setup s new is.old is.covers;
@@ -209,7 +211,7 @@ entries_hold setup s (e ∷ es) is = entries_hold setup (step setup s e).state e
 all_hold : (setup : Setup) (es : List Entry) → Holds setup (state_after setup (opening setup) es)
 all_hold setup es = entries_hold setup (opening setup) es (opening_holds setup)
 
-pub damage_covers : (setup : Setup) (es : List Entry) → DamageCovers setup (state_after setup (opening setup) es)
+pub damage_covers : (setup : Setup) (es : List Entry) → IsRightOutsideDamage setup (state_after setup (opening setup) es)
 damage_covers setup es = let h = all_hold setup es in h.covers
 
 -- ---- where no window is invalid

@@ -17,7 +17,8 @@ use Rattle.scene.specs.Places.{no_window}
 use Rattle.scene.specs.Looks.{screen_with, looks_of as looks_on}
 use Rattle.scene.proofs.CallerLemmas.{is_damaged-job}
 use Rattle.gui_core.specs.Setups.{Setup, screen_of, looks_of}
-use Rattle.gui_core.specs.Jobs.{is_invalid, windows_after_job, picture_after_job}
+use Rattle.invalidate.specs.Invalidation.{is_invalid}
+use Rattle.gui_core.specs.Jobs.{windows_after_job, picture_after_job}
 
 -- the first invalid window, with those before and after it
 pub record Splits (ws before : List Win) (w : Win) (after : List Win) : Type 0 where

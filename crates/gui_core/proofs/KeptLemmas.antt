@@ -14,7 +14,8 @@ use Rattle.scene.proofs.CallerLemmas.{bare, length-same, bare-area, all-push}
 use Rattle.paint_ops.specs.Kinds.{Assets}
 use Rattle.gui_core.specs.Setups.{Setup, looks_of}
 use Rattle.gui_core.specs.Windows.{with_window}
-use Rattle.gui_core.specs.Jobs.{is_invalid, windows_after_job, jobs_of}
+use Rattle.invalidate.specs.Invalidation.{is_invalid}
+use Rattle.gui_core.specs.Jobs.{windows_after_job, jobs_of}
 use Rattle.gui_core.specs.States.{State, after_create, after_job, after_jobs}
 use Rattle.gui_core.specs.Machines.{Machine, IsOld, IsKept}
 use Rattle.gui_core.proofs.JobLemmas.{jobs-more, no_jobs, width-job, height-job}
@@ -64,9 +65,9 @@ ignores_paintable assets = record {
 }
 
 -- the core with other windows, which differ in what is invalid alone, and with another picture of the same sides
-pub kept-same : (m : Machine) (ws : List Win) (p : Picture) (room : ℕ) → IsKept m room → map bare ws ≡ map bare m.state.windows → p.width ≡ m.state.shown.width → p.height ≡ m.state.shown.height
-    → IsKept (record m { state = record m.state { windows = ws; shown = p } }) room
-kept-same m ws p room kept e wide high =
+pub kept-same : (m : Machine) (ws : List Win) (p : Picture) → IsKept m → map bare ws ≡ map bare m.state.windows → p.width ≡ m.state.shown.width → p.height ≡ m.state.shown.height
+    → IsKept (record m { state = record m.state { windows = ws; shown = p } })
+kept-same m ws p kept e wide high =
     let count = length-same m.state.windows ws e in
     record {
       config = kept.config;
@@ -79,7 +80,6 @@ kept-same m ws p room kept e wide high =
       old = all-same (IsOld m.state.next) m.state.windows ws (ignores_old m.state.next) e kept.old;
       single = single-same m.state.windows ws e kept.single;
       paintable = all-same (IsPaintable m.setup.assets) m.state.windows ws (ignores_paintable m.setup.assets) e kept.paintable;
-      clips_room = kept.clips_room;
       made = kept.made;
       refused = kept.refused;
     }
@@ -118,9 +118,9 @@ older few many [] more all = tt
 older few many (w ∷ ws) more all = (let old : w.handle < few = all.0 in omega arith, older few many ws more all.1)
 
 -- the core with a window more
-pub kept-push : (m : Machine) (w : Win) (room : ℕ) → IsKept m room → length m.state.windows < 256 → w.handle ≡ m.state.next → IsPaintable m.setup.assets w
-    → IsKept (record m { state = record m.state { windows = m.state.windows ++ w ∷ []; next = m.state.next + 1 } }) room
-kept-push m w room kept few handle paintable =
+pub kept-push : (m : Machine) (w : Win) → IsKept m → length m.state.windows < 256 → w.handle ≡ m.state.next → IsPaintable m.setup.assets w
+    → IsKept (record m { state = record m.state { windows = m.state.windows ++ w ∷ []; next = m.state.next + 1 } })
+kept-push m w kept few handle paintable =
     let count = length_push m.state.windows w in
     record {
       config = kept.config;
@@ -133,26 +133,24 @@ kept-push m w room kept few handle paintable =
       old = all-push (IsOld (m.state.next + 1)) m.state.windows w (older m.state.next (m.state.next + 1) m.state.windows (omega arith) kept.old) (omega (arith, handle));
       single = single-push m.state.windows w kept.single (subst (λ (n : ℕ). AllByRecursion (IsOld n) m.state.windows) (sym handle) kept.old);
       paintable = all-push (IsPaintable m.setup.assets) m.state.windows w kept.paintable paintable;
-      clips_room = kept.clips_room;
       made = kept.made;
       refused = kept.refused;
     }
 
-pub kept-create : (m : Machine) (w : Win) (room now : ℕ) → IsKept m room → now ≡ room → length m.state.windows < 256 → w.handle ≡ m.state.next → IsPaintable m.setup.assets w → IsKept (record m { state = after_create m.setup m.state w }) now
-kept-create m w room now kept same few handle paintable =
+pub kept-create : (m : Machine) (w : Win) → IsKept m → length m.state.windows < 256 → w.handle ≡ m.state.next → IsPaintable m.setup.assets w → IsKept (record m { state = after_create m.setup m.state w })
+kept-create m w kept few handle paintable =
     let ws = m.state.windows ++ w ∷ [] in
     let looks = looks_of m.setup ws in
     let pushed : Machine = record m { state = record m.state { windows = ws; next = m.state.next + 1 } } in
-    subst (IsKept (record m { state = after_create m.setup m.state w })) (sym same)
-    (kept-same pushed (with_window m.setup m.state.windows w) m.state.shown room (kept-push m w room kept few handle paintable) (bare-area looks.clip (looks.clip w) ws) refl refl)
+    kept-same pushed (with_window m.setup m.state.windows w) m.state.shown (kept-push m w kept few handle paintable) (bare-area looks.clip (looks.clip w) ws) refl refl
 
 -- ---- a job
 
-pub kept-job : (m : Machine) (room : ℕ) → IsKept m room → IsKept (record m { state = after_job m.setup m.state }) room
-kept-job m room kept = kept-same m (windows_after_job m.state.windows) _ room kept (bare-job m.state.windows) (width-job m.setup m.state.windows m.state.shown) (height-job m.setup m.state.windows m.state.shown)
+pub kept-job : (m : Machine) → IsKept m → IsKept (record m { state = after_job m.setup m.state })
+kept-job m kept = kept-same m (windows_after_job m.state.windows) _ kept (bare-job m.state.windows) (width-job m.setup m.state.windows m.state.shown) (height-job m.setup m.state.windows m.state.shown)
 
-pub kept-counted : (m : Machine) (made refused room : ℕ) → IsKept m room → made ≤ m.setup.config.calls → refused ≤ made → IsKept (record m { made = made; refused = refused }) room
-kept-counted m made refused room kept few fewer = record {
+pub kept-counted : (m : Machine) (made refused : ℕ) → IsKept m → made ≤ m.setup.config.calls → refused ≤ made → IsKept (record m { made = made; refused = refused })
+kept-counted m made refused kept few fewer = record {
   config = kept.config;
   assets = kept.assets;
   has_desktop = kept.has_desktop;
@@ -163,7 +161,6 @@ kept-counted m made refused room kept few fewer = record {
   old = kept.old;
   single = kept.single;
   paintable = kept.paintable;
-  clips_room = kept.clips_room;
   made = few;
   refused = fewer;
 }

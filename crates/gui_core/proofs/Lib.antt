@@ -1,4 +1,3 @@
-mod AreaLemmas
 mod JobLemmas
 mod KeptLemmas
 mod CreateLemmas

@@ -15,7 +15,8 @@ use Rattle.calls.specs.declared.reply.Reply.TheVariants.{Refused}
 use Rattle.calls.specs.declared.reply.Refusal.{Refusal}
 use Rattle.calls.specs.declared.reply.Refusal.TheVariants.{BadSize, NoClass, TooManyWindows}
 use Rattle.gui_core.specs.Setups.{Setup, screen_of, looks_of, painter}
-use Rattle.gui_core.specs.Windows.{is_bad_size, new_window, with_window}
+use Rattle.gui_core.specs.Windows.{new_child, with_window}
+use Rattle.scene.specs.Stacks.{is_bad_size}
 use Rattle.gui_core.specs.Jobs.{jobs_of}
 use Rattle.gui_core.specs.States.{State, Step, Objection, opening, objections, refusal_of, unless_refused, created, after_job, after_jobs, effect, step, state_after}
 use Rattle.gui_core.specs.Promises.{window_calls}
@@ -67,11 +68,11 @@ with_window-alike setup ws vs w e =
     let right = looks_of setup (vs ++ w ∷ []) in
     bare-area left.clip (left.clip w) (ws ++ w ∷ []) ∙ bare-push ws vs w e ∙ sym (bare-area right.clip (right.clip w) (vs ++ w ∷ []))
 
-created_alike : (setup : Setup) (s t : State) (x y : ℤ) (w h class : ℕ) → AreAlike s t → AreAlike (created setup s (new_window s.next x y w h class)).state (created setup t (new_window t.next x y w h class)).state
+created_alike : (setup : Setup) (s t : State) (x y : ℤ) (w h class : ℕ) → AreAlike s t → AreAlike (created setup s (new_child s.next x y w h class)).state (created setup t (new_child t.next x y w h class)).state
 created_alike setup s t x y w h class e = record {
   windows =
-      ap (λ (n : ℕ). map bare (with_window setup s.windows (new_window n x y w h class))) e.next
-      ∙ with_window-alike setup s.windows t.windows (new_window t.next x y w h class) e.windows;
+      ap (λ (n : ℕ). map bare (with_window setup s.windows (new_child n x y w h class))) e.next
+      ∙ with_window-alike setup s.windows t.windows (new_child t.next x y w h class) e.windows;
   next = ap (λ (n : ℕ). n + 1) e.next;
 }
 

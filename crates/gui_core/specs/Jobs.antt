@@ -1,14 +1,11 @@
 -- Jobs: each paints the first window that waits for it.
-use Rattle.std.specs.Prelude.{ℕ, Bool, if◌then◌else◌, List, [], ◌∷◌, count_by, position, None, is_some}
+use Rattle.std.specs.Prelude.{ℕ, if◌then◌else◌, List, [], ◌∷◌, count_by, position, None}
 use Rattle.std.specs.Option.{option_map_or}
 use Rattle.frame.specs.Pictures.{Picture}
 use Rattle.scene.specs.declared.win.Win.{Win}
 use Rattle.scene.specs.Damage.{repainted, with_invalid}
+use Rattle.invalidate.specs.Invalidation.{is_invalid}
 use Rattle.gui_core.specs.Setups.{Setup, looks_of}
-
--- the window waits to be painted
-abbrev pub is_invalid : Win → Bool
-is_invalid w = is_some w.invalid
 
 -- the windows after a job: the first invalid one is valid
 abbrev pub windows_after_job : List Win → List Win

@@ -60,7 +60,7 @@ abbrev pub IsOld : ℕ → Win → Type 0
 IsOld next w = w.handle < next
 
 -- What is true of every core.
-pub record IsKept (m : Machine) (room : ℕ) : Type 0 where
+pub record IsKept (m : Machine) : Type 0 where
   pub config : IsConfig m.setup.config
   pub assets : IsSound m.setup.assets
   pub has_desktop : 1 ≤ length m.setup.assets.classes
@@ -71,6 +71,5 @@ pub record IsKept (m : Machine) (room : ℕ) : Type 0 where
   pub old : AllByRecursion (IsOld m.state.next) m.state.windows
   pub single : AreSingle m.state.windows
   pub paintable : AllByRecursion (IsPaintable m.setup.assets) m.state.windows
-  pub clips_room : 256 ≤ room
   pub made : m.made ≤ m.setup.config.calls
   pub refused : m.refused ≤ m.made

@@ -10,12 +10,12 @@ use Rattle.calls.specs.declared.call.Call.TheVariants.{Create, Exec, Scan}
 use Rattle.calls.specs.declared.entry.Entry.{Entry}
 use Rattle.calls.specs.declared.entry.Entry.TheVariants as entry
 use Rattle.gui_core.specs.Setups.{Setup, looks_of}
-use Rattle.gui_core.specs.Jobs.{is_invalid}
+use Rattle.invalidate.specs.Invalidation.{is_invalid}
 use Rattle.gui_core.specs.States.{State, latest}
 
 -- at each point of the screen outside the damage the latest picture is the painter's
-abbrev pub DamageCovers : Setup → State → Type 0
-DamageCovers setup s =
+abbrev pub IsRightOutsideDamage : Setup → State → Type 0
+IsRightOutsideDamage setup s =
     let looks = looks_of setup s.windows in
     (x y : ℕ) → x < setup.config.w → y < setup.config.h
     → is_damaged looks s.windows (point_at (pos x) (pos y)) ≡ false

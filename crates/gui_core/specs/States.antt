@@ -11,7 +11,9 @@ use Rattle.calls.specs.declared.reply.Reply.TheVariants.{Done, Handle, Jobs, Ref
 use Rattle.calls.specs.declared.reply.Refusal.{Refusal}
 use Rattle.calls.specs.declared.reply.Refusal.TheVariants.{BadSize, NoClass, TooManyWindows}
 use Rattle.gui_core.specs.Setups.{Setup, screen_of}
-use Rattle.gui_core.specs.Windows.{is_bad_size, new_window, desktop_with, with_window}
+use Rattle.gui_core.specs.Windows.{new_child, with_window}
+use Rattle.scene.specs.Stacks.{is_bad_size}
+use Rattle.scene.specs.Families.{desktop_with}
 use Rattle.gui_core.specs.Jobs.{windows_after_job, picture_after_job, jobs_of}
 
 -- the windows from back to front, the handle of the next one, and the shown picture
@@ -94,7 +96,7 @@ painted_out setup s =
 
 -- what a call does that isn't refused
 abbrev pub effect : Setup → State → Call → Step
-effect setup s (Create x y w h class) = created setup s (new_window s.next x y w h class)
+effect setup s (Create x y w h class) = created setup s (new_child s.next x y w h class)
 effect setup s Exec = painted_out setup s
 effect setup s Scan = record { state = s; reply = Done }
 

@@ -2,16 +2,16 @@ ghost use Rattle.std.specs.Prelude.{◌≡◌, ◌<◌, ◌≤◌, true, length,
 ghost use Rattle.paint_ops.specs.Soundness.{IsSound};
 ghost use Rattle.calls.specs.Actors.{fits};
 
-use crate::areas::invalidate_area;
-use crate::jobs::{first_invalid, make_valid};
+use crate::jobs::make_valid;
 use crate::refusals::is_bad_size;
 use crate::windows::{DESKTOP, child, desktop};
 use calls::{Call, Config, Refusal, Reply};
 use exec_paint::job;
 use frame::Frame;
-use gfx_base::{Memory, Rect};
+use gfx_base::Memory;
+use invalidate::{area, first_invalid};
 use paint_ops::{Assets, Class};
-use scene::{MOST_WINDOWS, Stack, Win, paint_whole, put_clips, screen};
+use scene::{MOST_WINDOWS, Stack, Win, ground, paint_whole, screen};
 use std::alloc::Global;
 use std::marker::Model;
 
@@ -21,8 +21,6 @@ pub struct Gui {
     config: Config,
     assets: Assets,
     windows: Stack,
-    /// Room for the windows' clip rectangles.
-    clips: Vec<Rect>,
     /// The handle of the next window.
     next: u32,
     shown: Frame,
@@ -33,7 +31,6 @@ pub struct Gui {
 }
 
 impl Model for Gui {
-    ghost use Rattle.std.specs.Prelude.{vec_capacity};
     ghost use Rattle.gui_core.specs.Machines.{Machine, IsKept};
 
     ghost Value = { Machine };
@@ -50,7 +47,7 @@ impl Model for Gui {
       state = record { windows = g.windows.items; next = g.next; shown = g.shown.picture };
       made = g.made;
       refused = g.refused;
-    }) (vec_capacity g.clips) };
+    }) };
 }
 
 /// Assets with the desktop's class in the place of class 0, which is there.
@@ -72,7 +69,8 @@ impl Gui {
     ghost use Rattle.std.specs.Prelude.{ℤ, Some, position};
     ghost use Rattle.scene.specs.Looks.{IsPaintable};
     ghost use Rattle.gui_core.specs.Setups.{painter};
-    ghost use Rattle.gui_core.specs.Jobs.{is_invalid, jobs_of};
+    ghost use Rattle.invalidate.specs.Invalidation.{is_invalid};
+    ghost use Rattle.gui_core.specs.Jobs.{jobs_of};
     ghost use Rattle.gui_core.specs.States.{after_create, after_job, after_jobs, refusal_of, objections};
     ghost use Rattle.gui_core.specs.Machines.{IsConfig, Takes, Answers, starting, counted};
 
@@ -88,9 +86,6 @@ impl Gui {
     {
         let shown = Frame::new(alloc, config.w, config.h)?;
         let device = Frame::new(alloc, 1, 1)?;
-        let Ok(clips) = Vec::with_capacity(alloc, MOST_WINDOWS) else {
-            return Err(Memory);
-        };
         let mut windows = Stack::new();
         windows.push(desktop(config.w, config.h, screen(config.w, config.h)));
         let assets = with_desktop(alloc, assets, &config);
@@ -98,7 +93,6 @@ impl Gui {
             config,
             assets,
             windows,
-            clips,
             next: DESKTOP + 1,
             shown,
             device,
@@ -146,7 +140,6 @@ impl Gui {
             config: _,
             assets,
             windows,
-            clips: _,
             next: _,
             mut shown,
             device: _,
@@ -223,9 +216,8 @@ impl Gui {
     {
         self.windows.push(window);
         let screen = screen(self.config.w, self.config.h);
-        put_clips(&self.windows, &screen, &mut self.clips);
-        let area = self.clips[self.clips.len() - 1];
-        invalidate_area(self.windows.as_mut_slice(), &self.clips, &area);
+        let clip = ground(&self.windows, self.windows.len() - 1, &screen);
+        area(self.windows.as_mut_slice(), &clip, &screen);
         self.next += 1;
     }
 

@@ -8,7 +8,7 @@ ghost use Rattle.calls.specs.declared.entry.Entry.{Entry};
 ghost use Rattle.calls.specs.declared.entry.Entry.TheVariants as entry;
 ghost use Rattle.gui_core.specs.Setups.{Setup, looks_of, painter};
 ghost use Rattle.gui_core.specs.States.{State, latest, opening, step, state_after};
-ghost use Rattle.gui_core.specs.Promises.{DamageCovers, NoneInvalid, window_calls};
+ghost use Rattle.gui_core.specs.Promises.{IsRightOutsideDamage, NoneInvalid, window_calls};
 
 use calls::{Call, Refusal, Reply};
 
@@ -16,7 +16,7 @@ use calls::{Call, Refusal, Reply};
 /// whole painter's picture where no window waits to be painted.
 pub fn damage_covers_change()
     ensures covers { (setup : Setup) (es : List Entry)
-        → DamageCovers setup (state_after setup (opening setup) es) }
+        → IsRightOutsideDamage setup (state_after setup (opening setup) es) }
     ensures quiet { (setup : Setup) (es : List Entry)
         → NoneInvalid (state_after setup (opening setup) es).windows
         → latest (state_after setup (opening setup) es)

@@ -2,7 +2,6 @@
 //! taken at opening.
 #![tactic(auto)]
 
-mod areas;
 mod gui;
 mod jobs;
 pub mod laws;

@@ -1,7 +1,7 @@
 //! Why calls are refused.
 
 ghost use Rattle.std.specs.Prelude.{◌≡◌};
-ghost use Rattle.gui_core.specs.Windows.{is_bad_size};
+ghost use Rattle.scene.specs.Stacks.{is_bad_size};
 
 /// The greatest side of a window, in points.
 const MOST_SIDE: u16 = 4096;

@@ -1,7 +1,8 @@
 //! Windows as they are made.
 
 ghost use Rattle.std.specs.Prelude.{◌≡◌};
-ghost use Rattle.gui_core.specs.Windows.{desktop_with, new_window};
+ghost use Rattle.gui_core.specs.Windows.{new_child};
+ghost use Rattle.scene.specs.Families.{desktop_with};
 
 use gfx_base::Rect;
 use scene::Win;
@@ -31,7 +32,7 @@ pub fn desktop(width: u16, height: u16, screen: Rect) -> Win
 
 /// A new window of the desktop.
 pub fn child(handle: u32, x: i16, y: i16, w: u16, h: u16, class: u8) -> Win
-    ensures { result ≡ new_window handle x y w h class }
+    ensures { result ≡ new_child handle x y w h class }
 {
     Win {
         handle,

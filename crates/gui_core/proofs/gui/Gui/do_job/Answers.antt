@@ -1,7 +1,8 @@
 use Rattle.std.proofs.Common.{◌≡◌, length, Some, ap, sym, subst, ◌∙◌, refl}
 use Rattle.std.specs.Prelude.{position}
 use Rattle.std.specs.List.{refill}
-use Rattle.gui_core.specs.Jobs.{is_invalid, windows_after_job, picture_after_job}
+use Rattle.invalidate.specs.Invalidation.{is_invalid}
+use Rattle.gui_core.specs.Jobs.{windows_after_job, picture_after_job}
 use Rattle.gui_core.specs.Machines.{Machine}
 use Rattle.gui_core.proofs.JobLemmas.{job_shows}
 use Rattle.gui_core.proofs.KeptLemmas.{kept-job, refill-whole, length-windows_after_job}
@@ -28,7 +29,7 @@ shown_is c =
     c.deref.ensures.0 c.self.invariant.width c.self.invariant.height c.job.ensures.picture
 
 pub invariant_of-self : goal.invariant_of-self
-invariant_of-self c = rw (windows_are c, shown_is c) (kept-job (before c) _ c.self.invariant)
+invariant_of-self c = rw (windows_are c, shown_is c) (kept-job (before c) c.self.invariant)
 
 pub returns : goal.returns
 returns c = rw (windows_are c, shown_is c, ← c.self.view_is) refl

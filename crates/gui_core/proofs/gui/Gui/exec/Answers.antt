@@ -1,6 +1,7 @@
 use Rattle.std.proofs.Common.{◌≡◌, length, Some, None, sym, ap, ◌∙◌, refl, arith}
 use Rattle.std.specs.Prelude.{position}
-use Rattle.gui_core.specs.Jobs.{is_invalid, jobs_of}
+use Rattle.invalidate.specs.Invalidation.{is_invalid}
+use Rattle.gui_core.specs.Jobs.{jobs_of}
 use Rattle.gui_core.specs.States.{after_job}
 use Rattle.gui_core.specs.Machines.{Machine}
 use Rattle.gui_core.proofs.JobLemmas.{no_jobs}

@@ -10,7 +10,7 @@ opened c =
 
 pub invariant_of-result : goal.invariant_of-result
 invariant_of-result c =
-    rw (opened c) (kept-starting c.args.assets c.args.config _ c.requires.config c.requires.assets c.requires.desktop (omega (arith, c.in-Ok.ensures.capacity)))
+    rw (opened c) (kept-starting c.args.assets c.args.config c.requires.config c.requires.assets c.requires.desktop)
 
 pub returns : goal.returns
 returns c = opened c
