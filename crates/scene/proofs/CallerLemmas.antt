@@ -7,7 +7,7 @@ pub use Rattle.scene.proofs.PlaceLemmas.{place_at-same, clips-same, has-clip_in}
 pub use Rattle.scene.proofs.PainterLemmas.{all-at, all-push, drawn_over, drawn_by, operations-more, over, windows-here, windows-away, corner_near}
 pub use Rattle.scene.proofs.AncestorLemmas.{LieAlike, lie_alike, has-parent_clip}
 pub use Rattle.scene.proofs.PathLemmas.{window_of-single}
-pub use Rattle.scene.proofs.StackLemmas.{FindsBack, FindsBack-same, shallow_back, AreFound, all_found, desktops, mapped_valid, changed_valid, set_is_changed}
+pub use Rattle.scene.proofs.StackLemmas.{FindsBack, FindsBack-same, shallow_back, AreFound, all_found, desktops, mapped_valid, mapped_given, changed_valid, set_is_changed}
 pub use Rattle.scene.proofs.PainterLemmas.{one_more_place}
 
 -- what windows leave and then others is what all leave
