@@ -2,3 +2,4 @@ mod PathLemmas
 mod RectLemmas
 mod AreaLemmas
 mod LawLemmas
+pub mod CallerLemmas

@@ -14,7 +14,7 @@ pub use Rattle.scene.proofs.ChangeLemmas.{AreasCover-away, AreasCover-adds, Area
 pub use Rattle.scene.proofs.ListLemmas.{Adds-midst, Adds-last, Changes-midst, TakesAway-filter, Reorders-top}
 pub use Rattle.scene.proofs.AncestorLemmas.{LieAlike, lie_alike, has-parent_clip}
 pub use Rattle.scene.proofs.PathLemmas.{window_of-single}
-pub use Rattle.scene.proofs.StackLemmas.{FindsBack, FindsBack-same, shallow_back, AreFound, all_found, desktops, mapped_valid, changed_valid, set_is_changed}
+pub use Rattle.scene.proofs.StackLemmas.{FindsBack, FindsBack-same, shallow_back, AreFound, all_found, desktops, mapped_valid, mapped_given, changed_valid, set_is_changed}
 pub use Rattle.scene.proofs.PainterLemmas.{one_more_place}
 
 -- what windows leave and then others is what all leave

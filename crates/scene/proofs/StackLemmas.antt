@@ -6,7 +6,7 @@ use Rattle.std.proofs.lemmas.Bool.{cases_Bool, eqb-true, ne_eqb, false≢true, f
 use Rattle.scene.specs.declared.win.Win.{Win}
 use Rattle.scene.specs.Places.{window_of, number_of, AreSingle}
 use Rattle.scene.specs.Families.{changed}
-use Rattle.scene.specs.Stacks.{IsWindow, IsDesktop, MayBecome, has_ancestors, IsShallow, path_from, AreInOrder, BeginWithDesktop, IsStack}
+use Rattle.scene.specs.Stacks.{IsWindow, IsDesktop, MayBecome, has_ancestors, IsShallow, path_from, AreInOrder, BeginWithDesktop, IsStack, AreGiven}
 
 -- ---- counts
 
@@ -156,6 +156,10 @@ pub changed_valid : (h : ℕ) (f : Win → Win) (ws : List Win) → IsStack ws �
 unfolding changed
 changed_valid h f ws stack kept =
     mapped_valid (λ w. cond (eqb w.handle h) (f w) w) ws stack (one_kept h f ws ws kept (all_found ws stack.single) stack.windows (desktops ws stack))
+
+pub mapped_given : (n : ℕ) (f : Win → Win) (ws : List Win) → AreKept f ws → AreGiven n ws → AreGiven n (map f ws)
+mapped_given n f [] kept given = tt
+mapped_given n f (w ∷ ws) kept given = (omega (arith, kept.0.handle, given.0), mapped_given n f ws kept.1 given.1)
 
 -- ---- a place, and the handle of the window there
 

@@ -11,3 +11,4 @@ mod BlockLemmas
 mod ListLemmas
 mod ValidLemmas
 mod ClipLemmas
+pub mod CallerLemmas

@@ -390,3 +390,26 @@ created_valid ws n w over' s new =
       own = subst O is (AllBy-whole IsOwn (w ∷ []) ws vs put (mine, tt) (own_of ws w.parent s));
     } in
     subst S (sym is) (stack_of u tree (subst L is levels) (omega (arith, ap length (sym is), length-block (w ∷ []) ws vs put, new.few)))
+
+-- ---- handles that were given out
+
+given_more : (n : ℕ) (ws : List Win) → AreGiven n ws → AreGiven (n + 1) ws
+given_more n [] given = tt
+given_more n (w ∷ ws) given = (omega (arith, given.0), given_more n ws given.1)
+
+pub created_given : (ws : List Win) (n : ℕ) (w : Win) (s : IsPlaced ws w.parent) → AreGiven n ws → w.handle ≡ n + 1 → AreGiven (n + 1) (on_top_of w.parent (w ∷ []) ws)
+created_given ws n w s given next =
+    AllBy-whole (λ v. v.handle ≤ n + 1) (w ∷ []) ws (on_top_of w.parent (w ∷ []) ws) (created_stands ws w s) (omega (arith, next), tt) (given_more n ws given)
+
+pub without_given : (ws : List Win) (n h : ℕ) (s : IsPlaced ws h) → AreGiven n ws → AreGiven n (without_family h ws)
+without_given ws n h s given = AllBy-rest (λ v. v.handle ≤ n) (family_of h ws) (without_family h ws) ws (family_stands ws h s) given
+
+given_moved : (ws vs fam rest : List Win) (n : ℕ) → StandsIn fam rest ws → StandsIn fam rest vs → AreGiven n ws → AreGiven n vs
+given_moved ws vs fam rest n was is given =
+    AllBy-whole (λ v. v.handle ≤ n) fam rest vs is (AllBy-block (λ v. v.handle ≤ n) fam rest ws was given) (AllBy-rest (λ v. v.handle ≤ n) fam rest ws was given)
+
+pub raised_given : (ws : List Win) (n h : ℕ) (s : IsPlaced ws h) → IsStack ws → h ≢ 1 → AreGiven n ws → AreGiven n (raised h ws)
+raised_given ws n h s stack other given = given_moved ws (raised h ws) (family_of h ws) (without_family h ws) n (family_stands ws h s) (raised_stands ws h s stack other) given
+
+pub lowered_given : (ws : List Win) (n h : ℕ) (s : IsPlaced ws h) → IsStack ws → h ≢ 1 → AreGiven n ws → AreGiven n (lowered h ws)
+lowered_given ws n h s stack other given = given_moved ws (lowered h ws) (family_of h ws) (without_family h ws) n (family_stands ws h s) (lowered_stands ws h s stack other) given

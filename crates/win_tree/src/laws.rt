@@ -1,6 +1,6 @@
 //! Laws of the windows' list, each as the contract of a function that does nothing.
 
-ghost use Rattle.std.specs.Prelude.{◌≡◌, ◌≢◌, ◌<◌, ◌==◌, ℕ, Bool, true, false, if◌then◌else◌, List, [], ◌∷◌, map, filter, length, Some, None};
+ghost use Rattle.std.specs.Prelude.{◌≡◌, ◌≢◌, ◌+◌, ◌<◌, ◌==◌, ℕ, Bool, true, false, if◌then◌else◌, List, [], ◌∷◌, map, filter, length, Some, None};
 ghost use Rattle.std.specs.List.{AllByRecursion};
 ghost use Rattle.gfx_base.specs.declared.rect.Rect.{Rect};
 ghost use Rattle.gfx_base.specs.Rects.{LiesIn};
@@ -43,6 +43,22 @@ pub fn stacks_stay_valid()
         → IsStack (changed h change ws) }
     ensures each { (ws : List Win) (change : Win → Win) → IsStack ws
         → AllByRecursion (λ w. MayBecome w (change w)) ws → IsStack (map change ws) }
+{}
+
+/// Does nothing. The handles that stand in the list are among those that were given out, after each
+/// change too: a new window has the next one.
+pub fn handles_stay_given()
+    ensures created { (ws : List Win) (handles : ℕ) (w over : Win) → IsStack ws → AreGiven handles ws
+        → w.handle ≡ handles + 1 → window_of ws w.parent ≡ Some over
+        → AreGiven (handles + 1) (on_top_of w.parent (w ∷ []) ws) }
+    ensures deleted { (ws : List Win) (handles h : ℕ) (w : Win) → IsStack ws → AreGiven handles ws
+        → window_of ws h ≡ Some w → AreGiven handles (without_family h ws) }
+    ensures raised { (ws : List Win) (handles h : ℕ) (w : Win) → IsStack ws → AreGiven handles ws
+        → window_of ws h ≡ Some w → h ≢ 1 → AreGiven handles (raised h ws) }
+    ensures lowered { (ws : List Win) (handles h : ℕ) (w : Win) → IsStack ws → AreGiven handles ws
+        → window_of ws h ≡ Some w → h ≢ 1 → AreGiven handles (lowered h ws) }
+    ensures each { (ws : List Win) (handles : ℕ) (change : Win → Win) → AreGiven handles ws
+        → AllByRecursion (λ w. MayBecome w (change w)) ws → AreGiven handles (map change ws) }
 {}
 
 /// Does nothing. What a handle finds after each change: the new window, no window of a deleted

@@ -155,7 +155,8 @@ impl Tree {
 
     /// The window that has the handle, if there is one.
     pub fn get(&self, h: u32) -> Option<&Win>
-        ensures { option_map (λ w. w.now) result ≡ window_of self.now.windows h }
+        ensures found { option_map (λ w. w.now) result ≡ window_of self.now.windows h }
+        ensures window { IfSome result (λ w. IsWindow w.now) }
     {
         let key = find(&self.nodes, h)?;
         Some(&self.nodes[key].win)
