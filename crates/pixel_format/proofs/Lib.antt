@@ -1,0 +1,5 @@
+pub mod CallerLemmas
+mod BitLemmas
+mod MaxLemmas
+mod PixelLemmas
+mod SoundLemmas

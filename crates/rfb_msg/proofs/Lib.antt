@@ -1,0 +1,9 @@
+mod BegunLemmas
+mod BreakLemmas
+mod ChoiceLemmas
+mod FieldLemmas
+mod HeadLemmas
+mod ListLemmas
+mod OneLemmas
+mod ReadingLemmas
+mod StreamLemmas

@@ -1,0 +1,5 @@
+pub mod Grammar
+pub mod Kept
+pub mod Standing
+pub mod Streams
+pub mod Reading
