@@ -12,7 +12,7 @@ ghost use Rattle.gfx_base.specs.TileSets.{AreTilesOf};
 
 use crate::layer::window_of;
 use crate::plan::{Holes, add_above, base_of, layers_below};
-use crate::row::{add_tiles, paint_row, spans_of};
+use crate::row::{add_tiles, paint_row, plan_row};
 use crate::run::unsigned;
 use frame::Frame;
 use gfx_base::{Rect, Tiles};
@@ -52,18 +52,23 @@ fn paint_area(
     let mut holes = Holes::new();
     add_above(stack, which, area, &screen, assets, &mut layers, &mut holes);
     let mut tiles = Tiles::empty();
-    for y in unsigned(area.y0)..unsigned(area.y1) + 1 {
-        let spans = spans_of(area, holes.as_slice(), y);
+    let top = unsigned(area.y0);
+    let mut plan = plan_row(area, holes.as_slice(), top);
+    for y in top..unsigned(area.y1) + 1 {
+        if plan.last < y {
+            plan = plan_row(area, holes.as_slice(), y);
+        }
+        let spans = plan.spans.spans();
         paint_row(
             stack,
             layers.as_slice(),
             base.bare,
-            spans.spans(),
+            spans,
             y,
             assets,
             target,
         );
-        add_tiles(spans.spans(), y, width, &mut tiles);
+        add_tiles(spans, y, width, &mut tiles);
     }
     tiles
 }

@@ -13,7 +13,9 @@ ghost use Rattle.scene.specs.Looks.{IsPaintable, screen_with, looks_of};
 ghost use Rattle.scene.specs.Painting.{windows_at, painted_over};
 ghost use Rattle.exec_paint.specs.Rows.{row_mapped};
 ghost use Rattle.exec_paint.specs.Layers.{IsLayer, windows_in};
-ghost use Rattle.exec_paint.specs.Plans.{is_hidden};
+ghost use Rattle.exec_paint.specs.Plans.{IsPlanFrom};
+ghost use Rattle.std.specs.Prelude.{◌≤ℤ◌};
+ghost use Rattle.std.specs.Int.{int_min};
 ghost use Rattle.exec_paint.specs.Marks.{AddsTiles};
 
 use crate::layer::{Layer, paint_layers};
@@ -39,20 +41,53 @@ fn cut_hole(spans: &mut RowSpans, hole: &Hole)
     spans.cut(hole.clip.x0, hole.clip.x1);
 }
 
-/// The columns of the area on the row `y` that no hole has.
-pub fn spans_of(area: &Rect, holes: &[Hole], y: u16) -> RowSpans
+/// The columns of the area that are to be painted on some rows, and the last of these rows.
+#[derive(Drop)]
+pub struct RowPlan {
+    pub spans: RowSpans,
+    pub last: u16,
+}
+
+/// A row number, or the greatest one where the number is beyond it.
+fn row_number(z: i32) -> u16
+    requires { pos 0 ≤ℤ z }
+    ensures { pos result ≡ int_min z (pos 65535) }
+{
+    z.min(i32::from(u16::MAX)) as u16
+}
+
+/// The last row, from `y` on, up to which a rectangle reaches all rows or none.
+fn last_alike(r: &Rect, y: u16) -> u16
+    ensures from { y ≤ result }
+    ensures alike { (v : ℕ) → y ≤ v → v ≤ result
+        → is_within r.now.y0 r.now.y1 (pos v) ≡ is_within r.now.y0 r.now.y1 (pos y) }
+{
+    let row = i32::from(y);
+    if row < r.y0 {
+        row_number(r.y0 - 1)
+    } else if row <= r.y1 {
+        row_number(r.y1)
+    } else {
+        u16::MAX
+    }
+}
+
+/// The columns of the area on the row `y` that no hole has, and on the rows below up to which the
+/// holes are the same.
+pub fn plan_row(area: &Rect, holes: &[Hole], y: u16) -> RowPlan
     requires { length holes.now ≤ 255 }
-    ensures { (x : ℤ)
-        → in_spans result x
-        ≡ (is_within area.now.x0 area.now.x1 x && not (is_hidden holes.now (point_at x (pos y)))) }
+    ensures from { y ≤ result.last }
+    ensures columns { IsPlanFrom y area.now holes.now result }
 {
     let mut spans = RowSpans::whole(area.x0, area.x1);
+    let mut last = u16::MAX;
     for hole in holes {
         if has_row(&hole.clip, y) {
             cut_hole(&mut spans, hole);
         }
+        last = last.min(last_alike(&hole.clip, y));
     }
-    spans
+    RowPlan { spans, last }
 }
 
 /// Gives the columns of the spans a colour.

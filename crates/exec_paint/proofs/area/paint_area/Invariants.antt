@@ -1,4 +1,5 @@
 use Rattle.std.proofs.Common.{◌≡◌, ◌+◌, pos, drop}
+use Rattle.exec_paint.specs.Plans.{IsPlanFrom}
 use Rattle.gfx_base.specs.Rects.{point_at}
 use Rattle.frame.specs.Pictures.{Picture, changed}
 use Rattle.scene.specs.Looks.{looks_of, screen_with}
@@ -15,4 +16,5 @@ invariant-loop-y l =
     record {
       picture : l.target.picture ≡ changed p (to_row (λ u v. is_open looks (drop (l.which + 1) l.stack) l.area (point_at (pos u) (pos v))) l.y) (λ u v. painted looks l.stack (point_at (pos u) (pos v)));
       tiles : AreTilesOf p.width p.height (to_row (λ u v. is_open looks (drop (l.which + 1) l.stack) l.area (point_at (pos u) (pos v))) l.y) l.tiles;
+      plan : IsPlanFrom l.y l.area l.holes.items l.plan;
     }
