@@ -1,0 +1,16 @@
+//! Hextile: rectangles of pixel values as the bytes that viewers read, and back (RFC 6143, section
+//! 7.7.4). A rectangle is cut into tiles of 16 by 16 points from its own upper left corner on, from
+//! left to right and top to bottom; those at its right and bottom edge may be smaller.
+#![tactic(auto)]
+
+mod counts;
+mod known;
+pub mod laws;
+mod put;
+mod rectangle;
+mod sub;
+mod tile;
+
+pub use known::Known;
+pub use rectangle::encode;
+pub use sub::Sub;
