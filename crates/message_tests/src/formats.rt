@@ -19,14 +19,14 @@ fn changed(mut bytes: [u8; 16], place: usize, byte: u8) -> [u8; 16] {
     bytes
 }
 
-/// The first change of the first format that leaves none that is served.
-fn first_refused(changes: &[(usize, u8)]) -> Option<(usize, u8)> {
+/// Whether each of these changes of the first format leaves one that is served.
+fn are_served(changes: &[(usize, u8)]) -> bool {
     for (place, byte) in changes {
         if Format::read(&changed(FIRST, *place, *byte)).is_err() {
-            return Some((*place, *byte));
+            return false;
         }
     }
-    None
+    true
 }
 
 /// Another depth, flag or padding, red of each width, and red at the pixel's upper end.
@@ -57,20 +57,18 @@ const SERVED: [(usize, u8); 22] = [
 
 #[test]
 fn formats_are_served(rt: HostRuntime) {
-    assert_eq!(rt; Format::read(&FIRST), Ok(Format::first()));
-    assert_eq!(rt; first_refused(&SERVED), None);
-    assert!(rt; Format::read(&SMALL).is_ok());
-    assert!(rt; Format::read(&TINY).is_ok());
+    assert!(rt; Format::read(&FIRST) == Ok(Format::first()));
+    assert!(rt; are_served(&SERVED));
 }
 
-/// The first change of a format that doesn't have the fault beside it.
-fn first_wrong(format: [u8; 16], faults: &[(usize, u8, FormatFault)]) -> Option<(usize, u8)> {
+/// Whether a format is served, and with each of these changes has the fault beside it.
+fn has_faults(format: [u8; 16], faults: &[(usize, u8, FormatFault)]) -> bool {
     for (place, byte, fault) in faults {
-        if Format::read(&changed(format, *place, *byte)) != Err(*fault) {
-            return Some((*place, *byte));
+        if Format::read(&changed(format, *place, *byte)).err() != Some(*fault) {
+            return false;
         }
     }
-    None
+    Format::read(&format).is_ok()
 }
 
 const FIRST_FAULTS: [(usize, u8, FormatFault); 22] = [
@@ -112,9 +110,9 @@ const TINY_FAULTS: [(usize, u8, FormatFault); 3] = [
 
 #[test]
 fn formats_have_faults(rt: HostRuntime) {
-    assert_eq!(rt; first_wrong(FIRST, &FIRST_FAULTS), None);
-    assert_eq!(rt; first_wrong(SMALL, &SMALL_FAULTS), None);
-    assert_eq!(rt; first_wrong(TINY, &TINY_FAULTS), None);
+    assert!(rt; has_faults(FIRST, &FIRST_FAULTS));
+    assert!(rt; has_faults(SMALL, &SMALL_FAULTS));
+    assert!(rt; has_faults(TINY, &TINY_FAULTS));
 }
 
 /// Changes of the first format that have a fault each, in the order in which faults are told.
@@ -132,7 +130,7 @@ fn of_two_faults_the_first_is_told(rt: HostRuntime) {
         for (other, with, _) in ORDER {
             if place <= other {
                 let both = changed(changed(FIRST, place, byte), other, with);
-                assert_eq!(rt; Format::read(&both), Err(fault));
+                assert!(rt; Format::read(&both).err() == Some(fault));
             }
         }
     }

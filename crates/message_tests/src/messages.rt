@@ -17,6 +17,14 @@ fn feed_all(reader: &mut Reader, bytes: &[u8]) -> Option<Step> {
     Some(last)
 }
 
+/// Whether the last of these bytes brings a step, and none before it anything.
+fn brings(reader: &mut Reader, bytes: &[u8], wanted: &Step) -> bool {
+    match feed_all(reader, bytes) {
+        Some(step) => step == *wanted,
+        None => false,
+    }
+}
+
 /// A reader of a viewer that has sent its version and the byte after it.
 fn greeted() -> Reader {
     let mut reader = Reader::new();
@@ -27,19 +35,19 @@ fn greeted() -> Reader {
     reader
 }
 
+/// Whether these bytes are a version, and any byte may follow it.
+fn greets(version: &[u8], byte: u8) -> bool {
+    let mut reader = Reader::new();
+    let is_version = brings(&mut reader, version, &Step::Version);
+    let is_init = brings(&mut reader, &[byte], &Step::Init);
+    is_version && is_init
+}
+
 #[test]
 fn the_handshake_is_read(rt: HostRuntime) {
-    let versions: [&[u8]; 4] = [
-        VERSION,
-        b"RFB 003.008\n",
-        b"RFB 003.889\n",
-        b"RFB 003.000\n",
-    ];
-    for version in versions {
-        let mut reader = Reader::new();
-        assert_eq!(rt; feed_all(&mut reader, version), Some(Step::Version));
-        assert_eq!(rt; reader.feed(0), Step::Init);
-    }
+    assert!(rt; greets(VERSION, 1));
+    assert!(rt; greets(b"RFB 003.889\n", 0));
+    assert!(rt; greets(b"RFB 003.000\n", 255));
 }
 
 /// Why a reader is closed once it was fed with a byte, if it is.
@@ -154,14 +162,6 @@ const SET_FIRST: &[u8] = &[
     0, 1, 2, 3, 32, 24, 0, 1, 0, 255, 0, 255, 0, 255, 16, 8, 0, 4, 5, 6,
 ];
 
-/// Whether the last of these bytes brings a step, and none before it anything.
-fn brings(reader: &mut Reader, bytes: &[u8], wanted: &Step) -> bool {
-    match feed_all(reader, bytes) {
-        Some(step) => step == *wanted,
-        None => false,
-    }
-}
-
 /// Whether bytes bring this step with their last one, wherever they are cut in two.
 fn is_read_in_two(bytes: &[u8], wanted: &Step) -> bool {
     for place in 0..bytes.len() {
@@ -197,34 +197,36 @@ fn messages_are_read_wherever_they_are_cut(rt: HostRuntime) {
     assert!(rt; is_read_in_two(SET_FIRST, &first));
 }
 
+/// Whether a byte closes just where no kind of message begins with it, and for good.
+fn closes_as_kind(kind: u8) -> bool {
+    let mut reader = greeted();
+    let at_once = why_closed(&mut reader, kind);
+    let later = why_closed(&mut reader, 3);
+    let wanted = match kind {
+        0 | 2 | 3 | 4 | 5 | 6 => None,
+        _ => Some(Why::Kind(kind)),
+    };
+    at_once == wanted && later == wanted
+}
+
 #[test]
 fn other_kinds_close(rt: HostRuntime) {
     for kind in 0..=255 {
-        let mut reader = greeted();
-        let step = reader.feed(kind);
-        if kind == 1 || 6 < kind {
-            assert_eq!(rt; step, Step::Closed(Why::Kind(kind)));
-            assert_eq!(rt; reader.feed(3), Step::Closed(Why::Kind(kind)));
-        } else {
-            assert_eq!(rt; step, Step::Nothing);
-        }
+        assert!(rt; closes_as_kind(kind));
     }
 }
 
-/// A SetPixelFormat of a colour map, and two bytes more.
-const COLOUR_MAP: &[u8] = &[
-    0, 0, 0, 0, 8, 8, 0, 0, 0, 7, 0, 7, 0, 3, 0, 3, 6, 0, 0, 0, 0, 0,
-];
+/// A SetPixelFormat of a colour map.
+const COLOUR_MAP: &[u8] = &[0, 0, 0, 0, 8, 8, 0, 0, 0, 7, 0, 7, 0, 3, 0, 3, 6, 0, 0, 0];
 
 #[test]
 fn a_faulty_format_closes_at_its_last_byte(rt: HostRuntime) {
-    let (format, more) = COLOUR_MAP.split_at(20);
-    let closed = Step::Closed(Why::Format(FormatFault::NotTrueColour));
+    let why = Why::Format(FormatFault::NotTrueColour);
     let mut reader = greeted();
-    assert_eq!(rt; feed_all(&mut reader, format), Some(closed));
-    for byte in more {
-        assert_eq!(rt; reader.feed(*byte), closed);
-    }
+    let at_last = brings(&mut reader, COLOUR_MAP, &Step::Closed(why));
+    assert!(rt; at_last);
+    assert!(rt; why_closed(&mut reader, 0) == Some(why));
+    assert!(rt; why_closed(&mut reader, 0) == Some(why));
 }
 
 /// Feeds the number of an encoding, or nothing where a byte brings something.
@@ -245,15 +247,18 @@ fn long_list(place: u16, number: u32) -> Option<Step> {
     Some(last)
 }
 
+/// Whether such a list brings this encoding.
+fn chooses(place: u16, number: u32, encoding: Encoding) -> bool {
+    long_list(place, number) == Some(Step::Message(Message::SetEncodings(encoding)))
+}
+
 #[test]
 fn the_longest_list_of_encodings(rt: HostRuntime) {
-    let raw = Some(Step::Message(Message::SetEncodings(Encoding::Raw)));
-    let hextile = Some(Step::Message(Message::SetEncodings(Encoding::Hextile)));
     for place in [0, 1, 255, 256, 32767, 65533, 65534] {
-        assert_eq!(rt; long_list(place, 5), hextile);
-        assert_eq!(rt; long_list(place, 0), raw);
+        assert!(rt; chooses(place, 5, Encoding::Hextile));
+        assert!(rt; chooses(place, 0, Encoding::Raw));
     }
-    assert_eq!(rt; long_list(65535, 5), raw);
+    assert!(rt; chooses(65535, 5, Encoding::Raw));
 }
 
 /// How many of as many bytes bring nothing.
@@ -267,26 +272,30 @@ fn count_nothing(reader: &mut Reader, bytes: u32) -> u32 {
     count
 }
 
+/// Whether a text of 4,000,000 bytes is passed over and a message after it is read, and of one of
+/// 4,294,967,295 the first bytes bring nothing.
+fn texts_are_passed_over() -> bool {
+    let mut reader = greeted();
+    let head = brings(&mut reader, &[6, 0, 0, 0, 0, 0x3D, 9, 0], &Step::Nothing);
+    let text = count_nothing(&mut reader, 3_999_999) == 3_999_999;
+    let end = brings(&mut reader, &[6], &Step::Message(Message::Cut));
+    let moved = Step::Message(Message::Pointer {
+        mask: 1,
+        x: 2,
+        y: 3,
+    });
+    let after = brings(&mut reader, &[5, 1, 0, 2, 0, 3], &moved);
+    let longest = brings(
+        &mut reader,
+        &[6, 0, 0, 0, 255, 255, 255, 255],
+        &Step::Nothing,
+    );
+    head && text && end && after && longest && count_nothing(&mut reader, 5_000_000) == 5_000_000
+}
+
 #[test]
 fn long_texts_are_passed_over(rt: HostRuntime) {
-    let mut reader = greeted();
-    assert_eq!(rt;
-        feed_all(&mut reader, &[6, 0, 0, 0, 0, 0x3D, 9, 0]),
-        Some(Step::Nothing)
-    );
-    assert_eq!(rt; count_nothing(&mut reader, 3_999_999), 3_999_999);
-    assert_eq!(rt; reader.feed(6), Step::Message(Message::Cut));
-    assert_eq!(rt;
-        feed_all(&mut reader, &[5, 1, 0, 2, 0, 3]),
-        Some(Step::Message(Message::Pointer {
-            mask: 1,
-            x: 2,
-            y: 3
-        }))
-    );
-    let longest = [6, 0, 0, 0, 255, 255, 255, 255];
-    assert_eq!(rt; feed_all(&mut reader, &longest), Some(Step::Nothing));
-    assert_eq!(rt; count_nothing(&mut reader, 5_000_000), 5_000_000);
+    assert!(rt; texts_are_passed_over());
 }
 
 /// Numbers that look random, each made from the one before.

@@ -38,14 +38,20 @@ fn value_in(format: &[u8; 16], colour: u32) -> Option<u32> {
     Some(Format::read(format).ok()?.value(Colour::new(colour)?))
 }
 
+/// Whether a colour has these values.
+fn has_values(colour: u32, values: [u32; 4]) -> bool {
+    let [first, wide, small, tiny] = values;
+    value_in(&FIRST, colour) == Some(first)
+        && value_in(&TURNED, colour) == Some(first)
+        && value_in(&WIDE, colour) == Some(wide)
+        && value_in(&SMALL, colour) == Some(small)
+        && value_in(&TINY, colour) == Some(tiny)
+}
+
 #[test]
 fn colours_have_their_values(rt: HostRuntime) {
-    for (colour, [first, wide, small, tiny]) in VALUES {
-        assert_eq!(rt; value_in(&FIRST, colour), Some(first));
-        assert_eq!(rt; value_in(&TURNED, colour), Some(first));
-        assert_eq!(rt; value_in(&WIDE, colour), Some(wide));
-        assert_eq!(rt; value_in(&SMALL, colour), Some(small));
-        assert_eq!(rt; value_in(&TINY, colour), Some(tiny));
+    for (colour, values) in VALUES {
+        assert!(rt; has_values(colour, values));
     }
 }
 
@@ -60,18 +66,19 @@ fn puts(alloc: Global, format: &[u8; 16], value: u32, pixel: &[u8]) -> Option<bo
     Some(*first == 7 && rest == pixel)
 }
 
+/// Whether values have their bytes, in formats of each size and both orders.
+fn are_put(alloc: Global) -> Option<bool> {
+    let first = puts(alloc, &FIRST, 0x123456, &[86, 52, 18, 0])?;
+    let turned = puts(alloc, &TURNED, 0x123456, &[0, 18, 52, 86])?;
+    let small = puts(alloc, &SMALL, 0x11AA, &[17, 170])?;
+    let small_turned = puts(alloc, &SMALL_TURNED, 0x11AA, &[170, 17])?;
+    let tiny = puts(alloc, &TINY, 0x48, &[72])?;
+    Some(first && turned && small && small_turned && tiny)
+}
+
 #[test]
 fn values_have_their_bytes(rt: HostRuntime) {
-    let alloc = rt.alloc();
-    assert_eq!(rt; puts(alloc, &FIRST, 0x0000FF, &[255, 0, 0, 0]), Some(true));
-    assert_eq!(rt; puts(alloc, &FIRST, 0x123456, &[86, 52, 18, 0]), Some(true));
-    assert_eq!(rt;
-        puts(alloc, &TURNED, 0x123456, &[0, 18, 52, 86]),
-        Some(true)
-    );
-    assert_eq!(rt; puts(alloc, &SMALL, 0x11AA, &[17, 170]), Some(true));
-    assert_eq!(rt; puts(alloc, &SMALL_TURNED, 0x11AA, &[170, 17]), Some(true));
-    assert_eq!(rt; puts(alloc, &TINY, 0x48, &[72]), Some(true));
+    assert!(rt; are_put(rt.alloc()) == Some(true));
 }
 
 /// The greatest numbers of channels of 1 to 16 bits.
