@@ -1,6 +1,8 @@
-//! Tests of windows: where they lie, and small pictures of them.
+//! Tests of windows: where they lie, small pictures of them, and the jobs that paint them.
 #![tactic(auto)]
 
+#[cfg(test)]
+mod jobs;
 #[cfg(test)]
 mod painter;
 #[cfg(test)]

@@ -87,7 +87,7 @@ fn assets_of(alloc: Global, classes: [Class; 4]) -> Option<Assets>
 
 /// Class 0 has no operation, class 1 a bar on green, class 2 a middle on nothing, and class 3 is
 /// blue.
-fn assets(alloc: Global) -> Option<Assets>
+pub fn assets(alloc: Global) -> Option<Assets>
     ensures { IfSome result IsSound }
 {
     let plain = class(alloc, Some(colour(BLACK)), &[])?;
@@ -97,7 +97,7 @@ fn assets(alloc: Global) -> Option<Assets>
     assets_of(alloc, [plain, barred, overlay, blue])
 }
 
-fn win(handle: u32, parent: u32, x: i16, w: u16, class: u8) -> Win {
+pub fn win(handle: u32, parent: u32, x: i16, w: u16, class: u8) -> Win {
     Win {
         handle,
         parent,
@@ -110,7 +110,7 @@ fn win(handle: u32, parent: u32, x: i16, w: u16, class: u8) -> Win {
     }
 }
 
-fn with_value(value: i16, w: Win) -> Win {
+pub fn with_value(value: i16, w: Win) -> Win {
     let mut values = w.values;
     values[0] = value;
     Win { values, ..w }
@@ -123,7 +123,7 @@ fn is_paintable(w: &Win, assets: &Assets) -> bool
 }
 
 /// Whether the windows may be painted.
-fn are_paintable(stack: &[Win], assets: &Assets) -> bool
+pub fn are_paintable(stack: &[Win], assets: &Assets) -> bool
     ensures { result ≡ true → AllByRecursion (IsPaintable assets.now) stack.now }
 {
     for w in stack {
