@@ -790,6 +790,12 @@ replacement_own (Some w) win r own =
           },
     )
 
+-- a window may stand in its own place
+pub replacement_itself : (ws : List Win) (h : ℕ) (w : Win) → window_of ws h ≡ Some w → IsWindow w → IsReplacement (window_of ws w.handle) w
+replacement_itself ws h w live window =
+    let R : Option Win → Type 0 = λ o. IsReplacement o w in
+    subst R (sym (ap (window_of ws) (window_of-handle ws h w live) ∙ live)) (record { same = refl; invalid = window.invalid; desktop = λ one. (refl, refl) })
+
 -- a screen has a point
 pub screen-some : (width height : ℕ) → 1 ≤ width → 1 ≤ height → is_empty (screen_with width height) ≡ false
 unfolding is_empty
