@@ -1,15 +1,14 @@
 -- Windows that are made invalid.
-use Rattle.std.proofs.Common.{◌≡◌, ℕ, zero, suc, Bool, true, false, cond, List, [], ◌∷◌, map, set, ℤ, Option, Some, None, refl, sym, ap, subst, ◌∙◌, inl, inr}
+use Rattle.std.proofs.Common.{◌≡◌, ℕ, zero, suc, Bool, true, false, cond, List, [], ◌∷◌, map, set, ℤ, Option, Some, None, refl, sym, subst, ◌∙◌, inl, inr}
 use Rattle.std.specs.Prelude.{slice_get}
 use Rattle.std.specs.List.{AllByRecursion}
 use Rattle.std.proofs.lemmas.Bool.{cases_Bool, and_parts, false≢true}
 use Rattle.gfx_base.specs.declared.rect.Rect.{Rect}
-use Rattle.gfx_base.specs.Rects.{has, is_empty, meet, cover, canonical, shift, no_points}
+use Rattle.gfx_base.specs.Rects.{is_empty, meet, cover, shift}
 use Rattle.gfx_base.proofs.CallerLemmas.{has-corner, has-empty, has-meet, is_empty-has, has-shift, cover-smallest}
 use Rattle.scene.specs.declared.win.Win.{Win}
 use Rattle.scene.specs.Places.{place_of}
 use Rattle.scene.specs.Damage.{grown, with_invalid, invalidated, area_invalidated}
-use Rattle.scene.specs.Families.{changed}
 use Rattle.scene.specs.Stacks.{IsWindow, IsDesktop, MayBecome, IsStack, is_invalid_nowhere}
 use Rattle.scene.proofs.CallerLemmas.{desktops, mapped_valid, changed_valid, set_is_changed, window_of-single}
 

@@ -1,15 +1,15 @@
 -- Clips that are told by a path of ancestors.
-use Rattle.std.proofs.Common.{◌≡◌, ◌⊎◌, ℕ, zero, suc, ◌+◌, ◌-◌, ◌<◌, true, false, eqb, List, [], ◌∷◌, ◌++◌, length, take, get_or, Option, Some, None, refl, sym, ap, subst, ◌∙◌, inl, inr, arith, add-one, eq-eqb, length-append}
-use Rattle.std.specs.Prelude.{option_map, unwrap_or, slice_get}
+use Rattle.std.proofs.Common.{◌≡◌, ◌⊎◌, ℕ, zero, suc, ◌+◌, ◌-◌, ◌<◌, true, false, eqb, List, [], ◌∷◌, ◌++◌, length, take, get_or, Some, refl, sym, ap, subst, ◌∙◌, inl, inr, arith, add-one, eq-eqb, length-append}
+use Rattle.std.specs.Prelude.{slice_get}
 use Rattle.std.specs.List.{position}
 use Rattle.std.proofs.lemmas.Bool.{cases_Bool, eqb-true}
 use Rattle.std.proofs.lemmas.List.Quantifiers.{position-Some}
 use Rattle.gfx_base.specs.declared.rect.Rect.{Rect}
 use Rattle.scene.specs.declared.win.Win.{Win}
-use Rattle.scene.specs.Places.{Place, place_of, place_at, window_of, parent_in}
+use Rattle.scene.specs.Places.{Place, place_of, place_at, window_of}
 use Rattle.scene.specs.Families.{places_above}
 use Rattle.scene.specs.Clips.{clip_in, deepest_level}
-use Rattle.scene.proofs.CallerLemmas.{LieAlike, lie_alike}
+use Rattle.scene.proofs.CallerLemmas.{lie_alike}
 use Rattle.invalidate.specs.Paths.{IsPathFrom, IsPath, last_from, last_handle}
 
 -- ---- paths

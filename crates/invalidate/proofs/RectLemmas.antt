@@ -1,5 +1,5 @@
 -- Rectangles of a window, on the screen.
-use Rattle.std.proofs.Common.{◌≡◌, ℕ, zero, suc, ◌<◌, ◌≤◌, true, false, pos, negsuc, ℤ, ◌-ℤ◌, ◌&&◌, List, [], ◌∷◌, set, get_or, Some, refl, sym, ap, subst, ◌∙◌, inl, inr, arith}
+use Rattle.std.proofs.Common.{◌≡◌, ℕ, zero, suc, ◌<◌, ◌≤◌, true, false, pos, negsuc, ℤ, ◌-ℤ◌, List, [], ◌∷◌, set, get_or, Some, refl, sym, ap, subst, ◌∙◌, inl, inr, arith}
 use Rattle.std.specs.Prelude.{slice_get}
 use Rattle.std.specs.List.{AllByRecursion}
 use Rattle.std.proofs.lemmas.Bool.{cases_Bool, false≢true, and_parts}
@@ -14,7 +14,7 @@ use Rattle.scene.specs.declared.win.Win.{Win}
 use Rattle.scene.specs.Clips.{clip_in, corner_in}
 use Rattle.scene.specs.Damage.{invalidated}
 use Rattle.scene.specs.Looks.{screen_with}
-use Rattle.scene.specs.Stacks.{IsStack, IsWindow, BeginWithDesktop, screen_of}
+use Rattle.scene.specs.Stacks.{IsStack, IsWindow, BeginWithDesktop, desktop_screen}
 use Rattle.scene.proofs.CallerLemmas.{corner_near, has-clip_in}
 
 -- ---- what a window without a clip keeps
@@ -72,14 +72,14 @@ own_at [] i w all at = absurd cc
 own_at (v ∷ ws) zero w all at = let same : v ≡ w = cc in let P : Win → Type 0 = IsWindow in subst P same all.0
 own_at (v ∷ ws) (suc i) w all at = own_at ws i w all.1 at
 
-pub corner_is_near : (screen : Rect) (ws : List Win) (i : ℕ) (w : Win) → IsStack ws → screen ≡ screen_of ws → slice_get ws i ≡ Some w → is_empty (clip_in screen ws w) ≡ false → IsNear (corner_in ws w).x × IsNear (corner_in ws w).y
+pub corner_is_near : (screen : Rect) (ws : List Win) (i : ℕ) (w : Win) → IsStack ws → screen ≡ desktop_screen ws → slice_get ws i ≡ Some w → is_empty (clip_in screen ws w) ≡ false → IsNear (corner_in ws w).x × IsNear (corner_in ws w).y
 corner_is_near screen ws i w stack is at some =
     let S : Rect → Type 0 = λ s. is_empty (clip_in s ws w) ≡ false in
     by_desktop ws stack.order refl (subst S is some)
   where
-    by_desktop : (us : List Win) → BeginWithDesktop us → us ≡ ws → is_empty (clip_in (screen_of ws) ws w) ≡ false → IsNear (corner_in ws w).x × IsNear (corner_in ws w).y
+    by_desktop : (us : List Win) → BeginWithDesktop us → us ≡ ws → is_empty (clip_in (desktop_screen ws) ws w) ≡ false → IsNear (corner_in ws w).x × IsNear (corner_in ws w).y
     by_desktop [] begins same there = absurd begins
     by_desktop (d ∷ us) begins same there =
         let desk = begins.2 in
         let T : Rect → Type 0 = λ s. is_empty (clip_in s ws w) ≡ false in
-        near_corner d.w d.h ws w desk.width (omega (arith, desk.height)) (own_at ws i w stack.windows at) (subst T (sym (ap screen_of same)) there)
+        near_corner d.w d.h ws w desk.width (omega (arith, desk.height)) (own_at ws i w stack.windows at) (subst T (sym (ap desktop_screen same)) there)

@@ -6,7 +6,7 @@ ghost use Rattle.gfx_base.specs.Rects.{is_empty, shift, IsSmallest};
 ghost use Rattle.scene.specs.declared.win.Win.{Win};
 ghost use Rattle.scene.specs.Places.{place_of, no_window};
 ghost use Rattle.scene.specs.Damage.{grown, invalidated, area_invalidated, with_invalid};
-ghost use Rattle.scene.specs.Families.{changed};
+ghost use Rattle.scene.specs.Families.{window_changed};
 ghost use Rattle.scene.specs.Stacks.{IsStack};
 ghost use Rattle.invalidate.specs.Invalidation.{corners};
 
@@ -29,7 +29,7 @@ pub fn windows_stay_in_place()
 /// has the handle of the one there.
 pub fn places_have_handles()
     ensures { (ws : List Win) (i : ℕ) (w : Win) (change : Win → Win) → IsStack ws
-        → slice_get ws i ≡ Some w → slice_set ws i (change w) ≡ changed w.handle change ws }
+        → slice_get ws i ≡ Some w → slice_set ws i (change w) ≡ window_changed w.handle change ws }
 {}
 
 /// Does nothing. A window stays as it is where the area has no point, moved or not, and where its

@@ -6,7 +6,7 @@ ghost use Rattle.gfx_base.specs.Rects.{shift};
 ghost use Rattle.scene.specs.declared.win.Win.{Win as Window};
 ghost use Rattle.scene.specs.Clips.{clip_in};
 ghost use Rattle.scene.specs.Damage.{invalidated};
-ghost use Rattle.scene.specs.Stacks.{IsStack, screen_of};
+ghost use Rattle.scene.specs.Stacks.{IsStack, desktop_screen};
 ghost use Rattle.invalidate.specs.Invalidation.{is_invalid, on_screen, wholly_invalidated, IsLocal};
 
 use gfx_base::{Point, Rect};
@@ -51,7 +51,7 @@ fn moved(local: &Rect, corner: Point) -> Rect
 pub fn rect(stack: &mut [Win], i: usize, local: &Rect, screen: &Rect)
     requires stack { IsStack stack.old }
     requires place { i < length stack.old }
-    requires screen { screen.now ≡ screen_of stack.old }
+    requires screen { screen.now ≡ desktop_screen stack.old }
     requires local { IsLocal local.now }
     ensures { (w : Window) → slice_get stack.old i ≡ Some w
         → stack.new ≡ slice_set stack.old i

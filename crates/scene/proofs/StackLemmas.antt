@@ -5,7 +5,7 @@ use Rattle.std.specs.List.{AllByRecursion}
 use Rattle.std.proofs.lemmas.Bool.{cases_Bool, eqb-true, ne_eqb, false≢true, false_from_ne_true}
 use Rattle.scene.specs.declared.win.Win.{Win}
 use Rattle.scene.specs.Places.{window_of, number_of, AreSingle}
-use Rattle.scene.specs.Families.{changed}
+use Rattle.scene.specs.Families.{window_changed}
 use Rattle.scene.specs.Stacks.{IsWindow, IsDesktop, MayBecome, has_ancestors, IsShallow, path_from, AreInOrder, BeginWithDesktop, IsStack, AreGiven}
 
 -- ---- counts
@@ -152,8 +152,8 @@ one_kept h f ws (w ∷ us) kept found windows desk =
       | inr e ↦ (rw e (itself w windows.0 desk.0), later)
     ]
 
-pub changed_valid : (h : ℕ) (f : Win → Win) (ws : List Win) → IsStack ws → ((w : Win) → window_of ws h ≡ Some w → MayBecome w (f w)) → IsStack (changed h f ws)
-unfolding changed
+pub changed_valid : (h : ℕ) (f : Win → Win) (ws : List Win) → IsStack ws → ((w : Win) → window_of ws h ≡ Some w → MayBecome w (f w)) → IsStack (window_changed h f ws)
+unfolding window_changed
 changed_valid h f ws stack kept =
     mapped_valid (λ w. cond (eqb w.handle h) (f w) w) ws stack (one_kept h f ws ws kept (all_found ws stack.single) stack.windows (desktops ws stack))
 
@@ -163,8 +163,8 @@ mapped_given n f (w ∷ ws) kept given = (omega (arith, kept.0.handle, given.0),
 
 -- ---- a place, and the handle of the window there
 
-changed-none : (h : ℕ) (f : Win → Win) (ws : List Win) → number_of h ws ≡ 0 → changed h f ws ≡ ws
-unfolding changed
+changed-none : (h : ℕ) (f : Win → Win) (ws : List Win) → number_of h ws ≡ 0 → window_changed h f ws ≡ ws
+unfolding window_changed
 changed-none h f [] none = refl
 changed-none h f (w ∷ ws) none =
     elim (cases_Bool (eqb w.handle h)) [
@@ -178,8 +178,8 @@ count_at (v ∷ ws) zero w at = let same : v ≡ w = cc in omega (arith, here v 
 count_at (v ∷ ws) (suc i) w at = omega (arith, count_at ws i w at)
 
 -- what is put in a place is what the handle of the window there names
-pub set_is_changed : (ws : List Win) (i : ℕ) (w : Win) (f : Win → Win) → ((h : ℕ) → number_of h ws ≤ 1) → slice_get ws i ≡ Some w → set ws i (f w) ≡ changed w.handle f ws
-unfolding changed
+pub set_is_changed : (ws : List Win) (i : ℕ) (w : Win) (f : Win → Win) → ((h : ℕ) → number_of h ws ≤ 1) → slice_get ws i ≡ Some w → set ws i (f w) ≡ window_changed w.handle f ws
+unfolding window_changed
 set_is_changed [] i w f single at = absurd cc
 set_is_changed (v ∷ ws) zero w f single at =
     let same : v ≡ w = cc in

@@ -78,8 +78,8 @@ lowered handle ws =
     right_after (parent_of handle ws) (family_of handle ws) (without_family handle ws)
 
 -- with the window that has the handle changed
-unfoldable pub changed : ℕ → (Win → Win) → List Win → List Win
-changed handle change ws = map (λ w. if w.handle == handle then change w else w) ws
+unfoldable pub window_changed : ℕ → (Win → Win) → List Win → List Win
+window_changed handle change ws = map (λ w. if w.handle == handle then change w else w) ws
 
 -- ---- what calls do to a window
 

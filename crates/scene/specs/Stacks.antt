@@ -78,9 +78,9 @@ BeginWithDesktop (w ∷ ws) =
     (w.handle ≡ 1) × (w.parent ≡ 0) × IsDesktop w × AreInOrder (1 ∷ []) ws
 
 -- the screen that the desktop takes up, which is first
-abbrev pub screen_of : List Win → Rect
-screen_of [] = no_points
-screen_of (w ∷ ws) = screen_with w.w w.h
+abbrev pub desktop_screen : List Win → Rect
+desktop_screen [] = no_points
+desktop_screen (w ∷ ws) = screen_with w.w w.h
 
 -- ---- valid stacks
 

@@ -1,7 +1,7 @@
 //! What of windows is made invalid, by rows worked out by hand.
 
 ghost use Rattle.std.specs.Prelude.{◌≡◌, IfOk};
-ghost use Rattle.scene.specs.Stacks.{IsStack, screen_of};
+ghost use Rattle.scene.specs.Stacks.{IsStack, desktop_screen};
 ghost use Rattle.invalidate.specs.Invalidation.{IsLocal};
 
 use gfx_base::Rect;
@@ -36,9 +36,9 @@ fn windows(alloc: Global) -> Result<Stack, Fail>
     Ok(stack)
 }
 
-fn screen_of(stack: &[Win]) -> Rect
+fn desktop_screen(stack: &[Win]) -> Rect
     requires { IsStack stack.now }
-    ensures { result ≡ screen_of stack.now }
+    ensures { result ≡ desktop_screen stack.now }
 {
     screen(stack[0].w, stack[0].h)
 }
@@ -59,7 +59,7 @@ fn corners(numbers: [i16; 4]) -> Rect
 fn invalidate(stack: &mut [Win], what: What)
     requires { IsStack stack.old }
 {
-    let screen = screen_of(stack);
+    let screen = desktop_screen(stack);
     match what {
         Window(i) => {
             if i < stack.len() {

@@ -9,7 +9,7 @@ use Rattle.slab.specs.Slab.{Slab, get, slab_len, with_value, Updates}
 use Rattle.slab.proofs.SlabLemmas.{Updates-with_value}
 use Rattle.win_tree.proofs.SlotLemmas.{ContainsKey-from, slab_len-with_value}
 use Rattle.win_tree.specs.declared.node.Node.{Node}
-use Rattle.scene.specs.Families.{has_handle, family_of, without_family, on_top_of, right_after, parent_of, raised, lowered, changed}
+use Rattle.scene.specs.Families.{has_handle, family_of, without_family, on_top_of, right_after, parent_of, raised, lowered, window_changed}
 use Rattle.scene.specs.Stacks.{has_ancestors, IsShallow, IsWindow, IsDesktop, is_bad_size}
 use Rattle.scene.specs.Looks.{screen_with}
 use Rattle.gfx_base.specs.Rects.{is_empty}
@@ -449,14 +449,14 @@ abbrev pub mapped : ℕ → (Win → Win) → Forest → Forest
 mapped h f Empty = Empty
 mapped h f (Top w kids below) = Top (cond (eqb w.handle h) (f w) w) (mapped h f kids) (mapped h f below)
 
-order-mapped : (h : ℕ) (f : Win → Win) (t : Forest) → order (mapped h f t) ≡ changed h f (order t)
-unfolding changed
+order-mapped : (h : ℕ) (f : Win → Win) (t : Forest) → order (mapped h f t) ≡ window_changed h f (order t)
+unfolding window_changed
 order-mapped h f Empty = refl
 order-mapped h f (Top w kids below) =
     rw (order-mapped h f below, order-mapped h f kids) (sym (map-append (λ (u : Win). cond (eqb u.handle h) (f u) u) (order below) (w ∷ order kids)))
 
-length-changed : (h : ℕ) (f : Win → Win) (ws : List Win) → length (changed h f ws) ≡ length ws
-unfolding changed
+length-changed : (h : ℕ) (f : Win → Win) (ws : List Win) → length (window_changed h f ws) ≡ length ws
+unfolding window_changed
 length-changed h f [] = refl
 length-changed h f (w ∷ ws) = omega (arith, length-changed h f ws)
 
@@ -578,17 +578,17 @@ IsTreeOf-changed found new desktop handles t key v f tree rewritten =
     }
 
 pub Became-changed : (old new : Slab Node) (desktop handles : ℕ) (tree : IsTree old desktop handles) (key : ℕ) (v : Node) (f : Win → Win) → get old key ≡ Some v → Updates old new key (Some (record v { win = f v.win })) → (f v.win).handle ≡ v.win.handle → (f v.win).parent ≡ v.win.parent → IsWindow (f v.win) → ((f v.win).handle ≡ 1 → IsDesktop (f v.win)) → slab_len new ≡ slab_len old → new.capacity ≡ old.capacity
-    → Became new desktop handles (changed v.win.handle f (windows_of old desktop))
+    → Became new desktop handles (window_changed v.win.handle f (windows_of old desktop))
 Became-changed old new desktop handles tree key v f at updates handle parent sides desk len room =
     let rewritten : IsRewritten (get old) (get new) key v f = record { was = at; is = updates.changed; others = updates.others; handle = handle; parent = parent; window = sides; desktop = desk } in
     let of = IsTreeOf-changed (get old) (get new) desktop handles tree.forest key v f tree.nodes_of rewritten in
     let size = ap length (order-mapped v.win.handle f tree.forest) ∙ length-changed v.win.handle f (order tree.forest) in
-    Became-from new desktop handles (mapped v.win.handle f tree.forest) (changed v.win.handle f (windows_of old desktop)) of
+    Became-from new desktop handles (mapped v.win.handle f tree.forest) (window_changed v.win.handle f (windows_of old desktop)) of
     (shallow-kept (get old) (get new) desktop handles tree.forest (mapped v.win.handle f tree.forest) tree.nodes_of of (rewritten_was (get old) (get new) key v f rewritten) tree.shallow)
     (omega (arith, size, len, tree.len))
     (omega (arith, len, tree.few))
     (omega (arith, room, tree.room))
-    (order-mapped v.win.handle f tree.forest ∙ sym (ap (changed v.win.handle f) (windows_are old desktop handles tree)))
+    (order-mapped v.win.handle f tree.forest ∙ sym (ap (window_changed v.win.handle f) (windows_are old desktop handles tree)))
 
 -- ---- as callers see it
 
@@ -715,7 +715,7 @@ pub size_is : (nodes : Slab Node) (desktop handles : ℕ) (tree : IsTree nodes d
 size_is nodes desktop handles tree ws are = omega (arith, ap length (sym are ∙ windows_are nodes desktop handles tree), tree.len)
 
 pub replaced_for : (old : Slab Node) (desktop handles : ℕ) (tree : IsTree old desktop handles) (ws : List Win) (win w : Win) (key : ℕ) (v n : Node) (f : Win → Win) → windows_of old desktop ≡ ws → get old key ≡ Some v → get old key ≡ Some n → n.win.handle ≡ win.handle → window_of ws win.handle ≡ Some w → f w ≡ win → w.parent ≡ win.parent → IsWindow win → (win.handle ≡ 1 → IsDesktop win)
-    → Became (with_value old key (record v { win = win })) desktop handles (changed win.handle f ws)
+    → Became (with_value old key (record v { win = win })) desktop handles (window_changed win.handle f ws)
 replaced_for old desktop handles tree ws win w key v n f are at found same live change parent sides desk =
     let both : n ≡ v = cc in
     let handle : v.win.handle ≡ win.handle = ap (λ (u : Node). u.win.handle) (sym both) ∙ same in
@@ -727,8 +727,8 @@ replaced_for old desktop handles tree ws win w key v n f are at found same live 
     let U : Win → Type 0 = λ u. Updates old new key (Some (record v { win = u })) in
     let S : Win → Type 0 = λ u. IsWindow u in
     let D : Win → Type 0 = λ u. u.handle ≡ 1 → IsDesktop u in
-    Became-for new desktop handles (changed v.win.handle f (windows_of old desktop)) (changed win.handle f ws)
-    (ap (λ h. changed h f (windows_of old desktop)) handle ∙ ap (changed win.handle f) are)
+    Became-for new desktop handles (window_changed v.win.handle f (windows_of old desktop)) (window_changed win.handle f ws)
+    (ap (λ h. window_changed h f (windows_of old desktop)) handle ∙ ap (window_changed win.handle f) are)
     (Became-changed old new desktop handles tree key v f at
     (subst U (sym written) (Updates-with_value old key (record v { win = win }) (ContainsKey-from old key v at)))
     (ap (λ (u : Win). u.handle) written ∙ sym handle)
@@ -789,6 +789,12 @@ replacement_own (Some w) win r own =
             trans = kept.1 ∙ desk.trans;
           },
     )
+
+-- a window may stand in its own place
+pub replacement_itself : (ws : List Win) (h : ℕ) (w : Win) → window_of ws h ≡ Some w → IsWindow w → IsReplacement (window_of ws w.handle) w
+replacement_itself ws h w live window =
+    let R : Option Win → Type 0 = λ o. IsReplacement o w in
+    subst R (sym (ap (window_of ws) (window_of-handle ws h w live) ∙ live)) (record { same = refl; invalid = window.invalid; desktop = λ one. (refl, refl) })
 
 -- a screen has a point
 pub screen-some : (width height : ℕ) → 1 ≤ width → 1 ≤ height → is_empty (screen_with width height) ≡ false

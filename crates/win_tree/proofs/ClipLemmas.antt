@@ -1,13 +1,11 @@
 -- The clips of a window's descendants.
-use Rattle.std.proofs.Common.{◌≡◌, ℕ, ◌+◌, true, false, eqb, List, [], ◌∷◌, ◌++◌, Option, Some, None, refl, sym, ap, subst, ◌∙◌, inl, inr, arith}
-use Rattle.std.specs.Prelude.{option_map}
+use Rattle.std.proofs.Common.{◌≡◌, ℕ, false, eqb, List, [], ◌∷◌, Some, refl, sym, ap, subst, ◌∙◌, arith}
 use Rattle.std.specs.List.{AllByRecursion}
 use Rattle.std.proofs.lemmas.Bool.{ne_eqb}
 use Rattle.gfx_base.specs.declared.rect.Rect.{Rect}
-use Rattle.gfx_base.specs.declared.point.Point.{Point}
-use Rattle.gfx_base.specs.Rects.{has, LiesIn}
+use Rattle.gfx_base.specs.Rects.{LiesIn}
 use Rattle.scene.specs.declared.win.Win.{Win}
-use Rattle.scene.specs.Places.{Place, window_of, number_of, place_of, place_at, parent_in}
+use Rattle.scene.specs.Places.{window_of, place_of, place_at, parent_in}
 use Rattle.scene.specs.Clips.{clip_in}
 use Rattle.scene.specs.Families.{family_of}
 use Rattle.scene.specs.Stacks.{IsWindow, IsStack}
@@ -15,7 +13,7 @@ use Rattle.scene.proofs.CallerLemmas.{has-parent_clip, all_found}
 use Rattle.win_tree.specs.Forests.{Forest, Empty, Top, order, AreChildren}
 use Rattle.win_tree.proofs.StackLemmas.{AllBy-append, AllBy-first, AllBy-last}
 use Rattle.win_tree.proofs.BlockLemmas.{AllBy-block}
-use Rattle.win_tree.proofs.ValidLemmas.{IsPlaced, placed, fam_of, rest_of, block_in, family_is, window_of-win}
+use Rattle.win_tree.proofs.ValidLemmas.{placed, fam_of, rest_of, block_in, family_is, window_of-win}
 
 -- a child's clip lies in its parent's
 child_clipped : (screen : Rect) (ws : List Win) (w v : Win) → window_of ws v.parent ≡ Some w → eqb v.parent 0 ≡ false → LiesIn (clip_in screen ws v) (clip_in screen ws w)

@@ -6,7 +6,6 @@ mod FamilyLemmas
 mod TreeLemmas
 mod ChangeLemmas
 mod StackLemmas
-mod FilterLemmas
 mod BlockLemmas
 mod ListLemmas
 mod ValidLemmas

@@ -1,13 +1,13 @@
 -- A valid stack is the list of the windows of a tree.
-use Rattle.std.proofs.Common.{◌≡◌, ◌≢◌, ℕ, ◌+◌, ◌<◌, ◌≤◌, true, false, eqb, List, [], ◌∷◌, ◌++◌, refl, sym, ap, subst, ◌∙◌, inl, inr, arith, eq-eqb, append_assoc}
+use Rattle.std.proofs.Common.{◌≡◌, ◌≢◌, ℕ, ◌<◌, ◌≤◌, true, false, eqb, List, [], ◌∷◌, ◌++◌, refl, sym, ap, subst, ◌∙◌, inl, inr, arith, append_assoc}
 use Rattle.std.specs.List.{AllByRecursion}
 use Rattle.std.proofs.lemmas.Bool.{cases_Bool, cases_lt, ne_eqb, eqb-true}
 use Rattle.std.proofs.lemmas.List.{append-nil}
 use Rattle.scene.specs.declared.win.Win.{Win}
-use Rattle.scene.specs.Places.{number_of, AreSingle}
-use Rattle.scene.specs.Stacks.{IsWindow, path_from, AreInOrder, BeginWithDesktop, IsStack}
-use Rattle.win_tree.specs.Forests.{Forest, Empty, Top, order, among, one_if, AreChildren}
-use Rattle.win_tree.proofs.ForestLemmas.{here, not_here, differ}
+use Rattle.scene.specs.Places.{number_of}
+use Rattle.scene.specs.Stacks.{IsWindow, path_from, AreInOrder, IsStack}
+use Rattle.win_tree.specs.Forests.{Forest, Empty, Top, order, among, AreChildren}
+use Rattle.win_tree.proofs.ForestLemmas.{here, not_here}
 use Rattle.win_tree.proofs.LinkLemmas.{with_top, with_top-absent}
 use Rattle.win_tree.proofs.FamilyLemmas.{number_of-append, number_of-order}
 use Rattle.win_tree.proofs.TreeLemmas.{AreChildren-on_top}

@@ -1,18 +1,18 @@
 -- Valid stacks after each change of the list.
-use Rattle.std.proofs.Common.{◌≡◌, ◌≢◌, ◌⊎◌, ℕ, zero, suc, ◌+◌, ◌<◌, ◌≤◌, Bool, true, false, cond, eqb, not, List, [], ◌∷◌, ◌++◌, filter, length, map, Option, Some, None, refl, sym, ap, subst, ◌∙◌, inl, inr, arith, append_assoc, eq-eqb}
+use Rattle.std.proofs.Common.{◌≡◌, ◌≢◌, ℕ, ◌+◌, ◌<◌, ◌≤◌, Bool, true, false, cond, eqb, not, List, [], ◌∷◌, ◌++◌, filter, length, Option, Some, None, refl, sym, ap, subst, ◌∙◌, inl, inr, arith, append_assoc, eq-eqb}
 use Rattle.std.specs.Prelude.{option_map, unwrap_or}
 use Rattle.std.specs.List.{AllByRecursion}
-use Rattle.std.proofs.lemmas.Bool.{cases_Bool, cases_lt, cases_eq, eqb-true, ne_eqb, false≢true, false_from_ne_true}
+use Rattle.std.proofs.lemmas.Bool.{cases_Bool, cases_lt, eqb-true, ne_eqb, false≢true, false_from_ne_true}
 use Rattle.scene.specs.declared.win.Win.{Win}
-use Rattle.scene.specs.Places.{window_of, number_of, AreSingle}
-use Rattle.scene.specs.Families.{has_handle, is_in, family_of, without_family, on_top_of, right_after, parent_of, raised, lowered, changed, StandsIn}
-use Rattle.scene.specs.Stacks.{IsWindow, IsDesktop, MayBecome, has_ancestors, IsShallow, path_from, AreInOrder, BeginWithDesktop, IsStack, AreGiven}
-use Rattle.win_tree.specs.Forests.{Forest, Empty, Top, order, among, one_if, AreChildren}
-use Rattle.win_tree.proofs.ForestLemmas.{here, not_here}
+use Rattle.scene.specs.Places.{window_of, number_of}
+use Rattle.scene.specs.Families.{has_handle, is_in, family_of, without_family, on_top_of, right_after, parent_of, raised, lowered, StandsIn}
+use Rattle.scene.specs.Stacks.{IsWindow, IsDesktop, has_ancestors, IsShallow, BeginWithDesktop, IsStack, AreGiven}
+use Rattle.win_tree.specs.Forests.{Forest, Empty, order, among, AreChildren}
+use Rattle.win_tree.proofs.ForestLemmas.{here}
 use Rattle.win_tree.proofs.LinkLemmas.{without, with_top, with_bottom}
-use Rattle.win_tree.proofs.FamilyLemmas.{number_of-append, number_of-order, Spot, spot, parts_counted, family_of-is, without_family-is, on_top_of-is, right_after-is}
+use Rattle.win_tree.proofs.FamilyLemmas.{number_of-append, number_of-order, Spot, spot, family_of-is, without_family-is, on_top_of-is, right_after-is}
 use Rattle.win_tree.proofs.TreeLemmas.{AreChildren-on_top, AreChildren-at_bottom, AreChildren-without, window_of-absent, FindsLess, has_ancestors-less}
-use Rattle.win_tree.proofs.ChangeLemmas.{deep_parent, window_of-handle}
+use Rattle.win_tree.proofs.ChangeLemmas.{deep_parent}
 use Rattle.win_tree.proofs.StackLemmas.{IsOwn, IsOneTree, free_of, stack_of}
 use Rattle.win_tree.proofs.BlockLemmas.{number_of-block, length-block, AllBy-rest, AllBy-block, AllBy-whole, window_of-block, window_of-alone}
 use Rattle.scene.proofs.CallerLemmas.{FindsBack, FindsBack-same, shallow_back, AreFound, all_found}

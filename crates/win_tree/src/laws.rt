@@ -7,7 +7,7 @@ ghost use Rattle.gfx_base.specs.Rects.{LiesIn};
 ghost use Rattle.scene.specs.declared.win.Win.{Win};
 ghost use Rattle.scene.specs.Places.{window_of, place_of, place_at};
 ghost use Rattle.scene.specs.Clips.{clip_in, corner_in};
-ghost use Rattle.scene.specs.Families.{has_handle, family_of, without_family, on_top_of, raised, lowered, changed, places_above, StandsIn};
+ghost use Rattle.scene.specs.Families.{has_handle, family_of, without_family, on_top_of, raised, lowered, window_changed, places_above, StandsIn};
 ghost use Rattle.scene.specs.Stacks.{has_ancestors, IsStack, IsWindow, AreGiven, MayBecome};
 ghost use Rattle.win_tree.specs.Examples.{dot_in, small_tree, handles_of};
 
@@ -40,7 +40,7 @@ pub fn stacks_stay_valid()
         → h ≢ 1 → IsStack (lowered h ws) }
     ensures changed { (ws : List Win) (h : ℕ) (change : Win → Win) → IsStack ws
         → ((w : Win) → window_of ws h ≡ Some w → MayBecome w (change w))
-        → IsStack (changed h change ws) }
+        → IsStack (window_changed h change ws) }
     ensures each { (ws : List Win) (change : Win → Win) → IsStack ws
         → AllByRecursion (λ w. MayBecome w (change w)) ws → IsStack (map change ws) }
 {}

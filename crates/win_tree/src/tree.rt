@@ -6,7 +6,7 @@ ghost use Rattle.arrayvec.specs.ArrayVec.{array_vec_len};
 ghost use Rattle.slab.specs.Slab.{get, slab_len};
 ghost use Rattle.scene.specs.Looks.{screen_with};
 ghost use Rattle.scene.specs.Places.{window_of};
-ghost use Rattle.scene.specs.Families.{new_window, desktop_with, on_top_of, without_family, raised, lowered, changed, moved_to, resized_to, with_shown};
+ghost use Rattle.scene.specs.Families.{new_window, desktop_with, on_top_of, without_family, raised, lowered, window_changed, moved_to, resized_to, with_shown};
 ghost use Rattle.scene.specs.Stacks.{has_ancestors, is_bad_size, IsWindow, IsDesktop, IsStack, AreGiven};
 ghost use Rattle.win_tree.specs.Links.{order_from};
 ghost use Rattle.win_tree.specs.Trees.{IsReplacement};
@@ -289,7 +289,7 @@ impl Tree {
         ensures { (w : Window) (change : Window → Window)
             → window_of self.old.windows win.now.handle ≡ Some w → change w ≡ win.now
             → self.new ≡ record {
-              windows = changed win.now.handle change self.old.windows;
+              windows = window_changed win.now.handle change self.old.windows;
               handles = self.old.handles;
             } }
     {
@@ -383,7 +383,7 @@ impl Tree {
         ensures unchanged { OnErr result (self.new ≡ self.old) }
         ensures accepted { OnOk result (refusal_of_change self.old.windows h ≡ None) }
         ensures moved { OnOk result (self.new ≡ record {
-          windows = changed h (moved_to x y) self.old.windows;
+          windows = window_changed h (moved_to x y) self.old.windows;
           handles = self.old.handles;
         }) }
     {
@@ -400,7 +400,7 @@ impl Tree {
         ensures accepted { OnOk result
             (refusal_of_resize self.old.windows h width height ≡ None) }
         ensures resized { OnOk result (self.new ≡ record {
-          windows = changed h (resized_to width height) self.old.windows;
+          windows = window_changed h (resized_to width height) self.old.windows;
           handles = self.old.handles;
         }) }
     {
@@ -422,7 +422,7 @@ impl Tree {
         ensures unchanged { OnErr result (self.new ≡ self.old) }
         ensures accepted { OnOk result (refusal_of_change self.old.windows h ≡ None) }
         ensures set { OnOk result (self.new ≡ record {
-          windows = changed h (with_shown shown) self.old.windows;
+          windows = window_changed h (with_shown shown) self.old.windows;
           handles = self.old.handles;
         }) }
     {
@@ -471,7 +471,7 @@ impl Tree {
     pub fn put(&mut self, win: &Win)
         requires { IsReplacement (window_of self.old.windows win.now.handle) win.now }
         ensures { self.new ≡ record {
-          windows = changed win.now.handle (λ w. win.now) self.old.windows;
+          windows = window_changed win.now.handle (λ w. win.now) self.old.windows;
           handles = self.old.handles;
         } }
     {

@@ -1,4 +1,4 @@
-use Rattle.std.proofs.Common.{◌≡◌, Some, get_or, sym, ap, ◌∙◌, arith}
+use Rattle.std.proofs.Common.{◌≡◌, Some, get_or, sym, ap, ◌∙◌}
 use Rattle.std.specs.Prelude.{slice_get}
 use Rattle.std.proofs.lemmas.Option.{slice_get-get_or, get_or_from_slice_get}
 use Rattle.scene.specs.declared.win.Win.{Win}
@@ -6,7 +6,6 @@ use Rattle.scene.specs.Places.{no_window}
 use Rattle.scene.specs.Clips.{clip_in}
 use Rattle.scene.specs.Damage.{invalidated}
 use Rattle.invalidate.proofs.AreaLemmas.{change_more, was_at}
-use Rattle.invalidate.proofs.RectLemmas.{invalidated_is}
 use Rattle.invalidate.proofs.areas.area.Goals as goal
 
 pub loop-i-preserved : goal.loop-i-preserved
