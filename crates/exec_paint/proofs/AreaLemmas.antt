@@ -13,7 +13,7 @@ use Rattle.paint_ops.specs.Kinds.{Assets}
 use Rattle.scene.specs.declared.win.Win.{Win}
 use Rattle.scene.specs.Painting.{Looks, windows_at, hides_behind, painted_over, painted}
 use Rattle.scene.specs.Looks.{looks_of, screen_with}
-use Rattle.scene.specs.Damage.{some_has, in_patch, repainted}
+use Rattle.scene.specs.Damage.{some_has, in_patch, in_patch_at, repainted}
 use Rattle.exec_paint.specs.declared.layer.Layer.{Layer}
 use Rattle.exec_paint.specs.declared.plan.Hole.{Hole}
 use Rattle.exec_paint.specs.Layers.{windows_in}
@@ -252,9 +252,9 @@ open-patch looks w above area invalid p is meet =
     let h = not (hides_behind looks (windows_at looks above p)) in
     ap (λ (b : Bool). b && h) meet ∙ turned (has (looks.clip w) p) (has invalid p) h ∙ ap (λ (o : Option Rect). (has (looks.clip w) p && h) && some_has o p) (sym is)
 
-pub patch-painted : (p now : Picture) (looks : Looks) (ws : List Win) (w : Win) (above : List Win) (area : Rect) → HasShape p → ((r : Point) → is_open looks above area r ≡ in_patch looks w above r) → now ≡ painted_in looks ws above area p → now ≡ repainted looks ws w above p
-patch-painted p now looks ws w above area shape same e =
-    e ∙ changed-same p (λ x y. is_open looks above area (point_at (pos x) (pos y))) (λ x y. in_patch looks w above (point_at (pos x) (pos y))) (λ x y. painted looks ws (point_at (pos x) (pos y))) (λ x y. painted looks ws (point_at (pos x) (pos y))) shape (λ x y x_in y_in. same (point_at (pos x) (pos y))) (λ x y x_in y_in h. refl)
+pub patch-painted : (p now : Picture) (looks : Looks) (ws : List Win) (which : ℕ) (above : List Win) (area : Rect) → HasShape p → ((r : Point) → is_open looks above area r ≡ in_patch_at looks ws which r) → now ≡ painted_in looks ws above area p → now ≡ repainted looks ws which p
+patch-painted p now looks ws which above area shape same e =
+    e ∙ changed-same p (λ x y. is_open looks above area (point_at (pos x) (pos y))) (λ x y. in_patch_at looks ws which (point_at (pos x) (pos y))) (λ x y. painted looks ws (point_at (pos x) (pos y))) (λ x y. painted looks ws (point_at (pos x) (pos y))) shape (λ x y x_in y_in. same (point_at (pos x) (pos y))) (λ x y x_in y_in h. refl)
 
 pub tiles-same : (width height : ℕ) (here there : ℕ → ℕ → Bool) (tiles : List ℕ) → ((x y : ℕ) → here x y ≡ there x y) → AreTilesOf width height here tiles → AreTilesOf width height there tiles
 tiles-same width height here there tiles same of = record {
@@ -262,8 +262,8 @@ tiles-same width height here there tiles same of = record {
   only = λ c r e. let h = of.only c r e in record { x = h.x; y = h.y; inside = h.inside; col_is = h.col_is; row_is = h.row_is; is_here = sym (same h.x h.y) ∙ h.is_here };
 }
 
-pub patch-empty : (p : Picture) (looks : Looks) (ws : List Win) (w : Win) (above : List Win) → HasShape p → ((r : Point) → in_patch looks w above r ≡ false) → p ≡ repainted looks ws w above p
-patch-empty p looks ws w above shape none = sym (changed-none p (λ x y. in_patch looks w above (point_at (pos x) (pos y))) (λ x y. painted looks ws (point_at (pos x) (pos y))) shape (λ x y x_in y_in. none (point_at (pos x) (pos y))))
+pub patch-empty : (p : Picture) (looks : Looks) (ws : List Win) (which : ℕ) → HasShape p → ((r : Point) → in_patch_at looks ws which r ≡ false) → p ≡ repainted looks ws which p
+patch-empty p looks ws which shape none = sym (changed-none p (λ x y. in_patch_at looks ws which (point_at (pos x) (pos y))) (λ x y. painted looks ws (point_at (pos x) (pos y))) shape (λ x y x_in y_in. none (point_at (pos x) (pos y))))
 
 pub tiles-empty : (width height : ℕ) (here : ℕ → ℕ → Bool) (tiles : List ℕ) → ((x y : ℕ) → here x y ≡ false) → ((c r : ℕ) → has_tile tiles c r ≡ false) → AreTilesOf width height here tiles
 tiles-empty width height here tiles none empty = record {

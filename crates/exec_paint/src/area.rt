@@ -1,14 +1,13 @@
 //! The job of one window.
 
-ghost use Rattle.std.specs.Prelude.{◌≡◌, ℕ, ◌+◌, ◌<◌, ◌≤◌, ◌≤ℤ◌, ◌<ℤ◌, ◌&&◌, pos, length, drop, slice_get, is_some, Some, IsTrue, true, false};
+ghost use Rattle.std.specs.Prelude.{◌≡◌, ℕ, ◌+◌, ◌<◌, ◌≤◌, ◌≤ℤ◌, ◌<ℤ◌, ◌&&◌, pos, length, drop};
 ghost use Rattle.std.specs.List.{AllByRecursion};
 ghost use Rattle.arrayvec.specs.ArrayVec.{array_vec_len};
 ghost use Rattle.gfx_base.specs.Rects.{point_at};
 ghost use Rattle.frame.specs.Pictures.{HasShape};
 ghost use Rattle.paint_ops.specs.Soundness.{IsSound};
-ghost use Rattle.scene.specs.declared.win.Win.{Win};
 ghost use Rattle.scene.specs.Looks.{IsPaintable, screen_with, looks_of};
-ghost use Rattle.scene.specs.Damage.{in_patch, repainted};
+ghost use Rattle.scene.specs.Damage.{in_patch_at, repainted};
 ghost use Rattle.gfx_base.specs.TileSets.{AreTilesOf};
 
 use crate::layer::window_of;
@@ -95,17 +94,15 @@ pub fn job(
     requires few { length stack.now ≤ 256 }
     requires windows { AllByRecursion (IsPaintable assets.now) stack.now }
     requires which { which < length stack.now }
-    ensures picture { (w : Win) → slice_get stack.now which ≡ Some w
-        → target.new.picture
+    ensures picture { target.new.picture
         ≡ repainted (looks_of assets.now
-        (screen_with target.old.picture.width target.old.picture.height) stack.now) stack.now w
-        (drop (which + 1) stack.now) target.old.picture }
-    ensures tiles { (w : Win) → slice_get stack.now which ≡ Some w
-        → AreTilesOf target.old.picture.width target.old.picture.height
-        (λ x y. in_patch
+        (screen_with target.old.picture.width target.old.picture.height) stack.now) stack.now which
+        target.old.picture }
+    ensures tiles { AreTilesOf target.old.picture.width target.old.picture.height
+        (λ x y. in_patch_at
         (looks_of assets.now
-        (screen_with target.old.picture.width target.old.picture.height) stack.now) w
-        (drop (which + 1) stack.now) (point_at (pos x) (pos y))) result }
+        (screen_with target.old.picture.width target.old.picture.height) stack.now) stack.now which
+        (point_at (pos x) (pos y))) result }
     ensures device { device.new ≡ device.old }
 {
     let screen = screen(target.width(), target.height());

@@ -1,25 +1,23 @@
 -- A job: the first invalid window, and the points that it paints.
-use Rattle.std.proofs.Common.{◌≡◌, ℕ, suc, ◌+◌, Bool, true, false, cond, List, [], ◌∷◌, ◌++◌, length, get_or, set, ltb, take, drop, Some, None, pos, refl, sym, ap, ◌∙◌, arith}
+use Rattle.std.proofs.Common.{◌≡◌, ℕ, suc, ◌+◌, Bool, true, false, ◌||◌, cond, List, [], ◌∷◌, ◌++◌, length, get_or, set, ltb, take, drop, Option, Some, None, refl, sym, ap, subst, ◌∙◌, arith}
 use Rattle.std.specs.Prelude.{position, count_by}
 use Rattle.std.specs.List.{AllByRecursion, sum_by, position_or_len}
+use Rattle.std.specs.Option.{option_map_or}
 use Rattle.std.proofs.lemmas.List.Sums.{sum_by-cons, sum_by-append, fails_before_first}
-use Rattle.std.proofs.Math.Path.{fun_ext}
 use Rattle.std.proofs.lemmas.Bool.{ltb-false}
 use Rattle.std.proofs.lemmas.List.{take-append-drop, drop_more, length-take-le, set_at, get_or-take, get_or_default, length-take}
 use Rattle.std.proofs.lemmas.List.Elements.{recursion_from_All}
 use Rattle.std.proofs.lemmas.List.Quantifiers.{position-Some}
 use Rattle.gfx_base.specs.declared.point.Point.{Point}
-use Rattle.gfx_base.specs.Rects.{point_at}
+use Rattle.frame.specs.Pictures.{Picture}
 use Rattle.scene.specs.declared.win.Win.{Win}
-use Rattle.scene.specs.Painting.{Looks, painted}
-use Rattle.scene.specs.Damage.{with_invalid, in_patch, repainted}
+use Rattle.scene.specs.Painting.{Looks}
+use Rattle.scene.specs.Damage.{with_invalid, in_patch_at, is_damaged, repainted}
 use Rattle.scene.specs.Places.{no_window}
 use Rattle.scene.specs.Looks.{screen_with, looks_of as looks_on}
-use Rattle.std.specs.Prelude.{slice_get}
-use Rattle.std.proofs.lemmas.Option.{slice_get-get_or}
-use Rattle.frame.specs.Pictures.{Picture, colour_at, picture_of, changed_points}
-use Rattle.gui_core.specs.Setups.{Setup, looks_of}
-use Rattle.gui_core.specs.Jobs.{is_invalid, windows_after_job, is_in_job, colour_after_job, picture_after_job}
+use Rattle.scene.proofs.CallerLemmas.{is_damaged-job}
+use Rattle.gui_core.specs.Setups.{Setup, screen_of, looks_of}
+use Rattle.gui_core.specs.Jobs.{is_invalid, windows_after_job, picture_after_job}
 
 -- the first invalid window, with those before and after it
 pub record Splits (ws before : List Win) (w : Win) (after : List Win) : Type 0 where
@@ -44,38 +42,56 @@ pub windows_after_job-parts : (before : List Win) (w : Win) (after : List Win) �
 windows_after_job-parts [] w after valid invalid = rw invalid refl
 windows_after_job-parts (v ∷ before) w after valid invalid = rw valid.0 (ap (λ (vs : List Win). v ∷ vs) (windows_after_job-parts before w after valid.1 invalid))
 
--- ---- the points
-
-pub is_in_job-parts : (looks : Looks) (before : List Win) (w : Win) (after : List Win) (p : Point) → AllByRecursion (λ v. is_invalid v ≡ false) before → is_invalid w ≡ true
-    → is_in_job looks (before ++ w ∷ after) p ≡ in_patch looks w after p
-is_in_job-parts looks [] w after p valid invalid = rw invalid refl
-is_in_job-parts looks (v ∷ before) w after p valid invalid = rw valid.0 (is_in_job-parts looks before w after p valid.1 invalid)
-
--- The picture after the job of the first invalid window is the painter's on its patch.
-pub repainted-job : (setup : Setup) (ws : List Win) (which : ℕ) (latest : Picture) → position is_invalid ws ≡ Some which → latest.width ≡ setup.config.w → latest.height ≡ setup.config.h
-    → repainted (looks_of setup ws) ws (get_or ws which no_window) (drop (which + 1) ws) latest ≡ picture_after_job setup ws latest
-unfolding changed_points
-repainted-job setup ws which latest first wide high =
-    let looks = looks_of setup ws in
-    let s = splits ws which first in
-    let above = drop (which + 1) ws in
-    let test : (p : Point) → in_patch looks (get_or ws which no_window) above p ≡ is_in_job looks ws p = λ p. sym (ap (λ (vs : List Win). is_in_job looks vs p) s.parts ∙ is_in_job-parts looks (take which ws) (get_or ws which no_window) above p s.valid s.invalid) in
-    ap (picture_of latest.width latest.height) (fun_ext (λ x. fun_ext (λ y. ap (λ (b : Bool). cond b (painted looks ws (point_at (pos x) (pos y))) (colour_at latest x y)) (test (point_at (pos x) (pos y))))))
-    ∙ ap (λ (n : ℕ). picture_of n latest.height (colour_after_job looks ws latest)) wide
-    ∙ ap (λ (n : ℕ). picture_of setup.config.w n (colour_after_job looks ws latest)) high
+-- ---- the picture
 
 -- what the job of a window leaves
 pub job_shows : (setup : Setup) (ws lent : List Win) (which : ℕ) (old new : Picture) → position is_invalid ws ≡ Some which → lent ≡ ws → old.width ≡ setup.config.w → old.height ≡ setup.config.h
-    → ((w : Win) → slice_get lent which ≡ Some w → new ≡ repainted (looks_on setup.assets (screen_with old.width old.height) lent) lent w (drop (which + 1) lent) old) → new ≡ picture_after_job setup ws old
+    → new ≡ repainted (looks_on setup.assets (screen_with old.width old.height) lent) lent which old → new ≡ picture_after_job setup ws old
 job_shows setup ws lent which old new first same wide high shows =
+    shows
+    ∙ ap (λ (vs : List Win). repainted (looks_on setup.assets (screen_with old.width old.height) vs) vs which old) same
+    ∙ ap (λ (n : ℕ). repainted (looks_on setup.assets (screen_with n old.height) ws) ws which old) wide
+    ∙ ap (λ (n : ℕ). repainted (looks_on setup.assets (screen_with setup.config.w n) ws) ws which old) high
+    ∙ sym (ap (λ (o : Option ℕ). option_map_or (λ k. repainted (looks_of setup ws) ws k old) o old) first)
+
+width_of-some : (looks : Looks) (ws : List Win) (o : Option ℕ) (old : Picture) → (option_map_or (λ k. repainted looks ws k old) o old).width ≡ old.width
+width_of-some looks ws None old = refl
+width_of-some looks ws (Some which) old = refl
+
+height_of-some : (looks : Looks) (ws : List Win) (o : Option ℕ) (old : Picture) → (option_map_or (λ k. repainted looks ws k old) o old).height ≡ old.height
+height_of-some looks ws None old = refl
+height_of-some looks ws (Some which) old = refl
+
+pub width-job : (setup : Setup) (ws : List Win) (old : Picture) → (picture_after_job setup ws old).width ≡ old.width
+width-job setup ws old = width_of-some (looks_of setup ws) ws (position is_invalid ws) old
+
+pub height-job : (setup : Setup) (ws : List Win) (old : Picture) → (picture_after_job setup ws old).height ≡ old.height
+height-job setup ws old = height_of-some (looks_of setup ws) ws (position is_invalid ws) old
+
+-- ---- the damage
+
+-- what was damaged before the job of the first invalid window lies in its patch, or is damaged after it
+pub damage-job : (setup : Setup) (ws : List Win) (which : ℕ) (p : Point) → position is_invalid ws ≡ Some which
+    → is_damaged (looks_of setup ws) ws p ≡ (in_patch_at (looks_of setup ws) ws which p || is_damaged (looks_of setup (windows_after_job ws)) (windows_after_job ws) p)
+damage-job setup ws which p first =
+    let s = splits ws which first in
+    let before = take which ws in
     let w = get_or ws which no_window in
-    let above = drop (which + 1) ws in
+    let after = drop (which + 1) ws in
+    let all = before ++ w ∷ after in
     let lt = (position-Some is_invalid ws which no_window first).0 in
-    shows w (ap (λ (vs : List Win). slice_get vs which) same ∙ slice_get-get_or ws which no_window lt)
-    ∙ ap (λ (vs : List Win). repainted (looks_on setup.assets (screen_with old.width old.height) vs) vs w (drop (which + 1) vs) old) same
-    ∙ ap (λ (n : ℕ). repainted (looks_on setup.assets (screen_with n old.height) ws) ws w above old) wide
-    ∙ ap (λ (n : ℕ). repainted (looks_on setup.assets (screen_with setup.config.w n) ws) ws w above old) high
-    ∙ repainted-job setup ws which old first wide high
+    let long : length before ≡ which = length-take-le which ws (omega arith) in
+    let valid = windows_after_job-parts before w after s.valid s.invalid in
+    let parts : is_damaged (looks_of setup all) all p ≡ (in_patch_at (looks_of setup all) all which p || is_damaged (looks_of setup (windows_after_job all)) (windows_after_job all) p) =
+    is_damaged-job setup.assets (screen_of setup) before w after p
+    ∙ ap (λ (n : ℕ). in_patch_at (looks_of setup all) all n p || is_damaged (looks_of setup (before ++ with_invalid w None ∷ after)) (before ++ with_invalid w None ∷ after) p) long
+    ∙ ap (λ (vs : List Win). in_patch_at (looks_of setup all) all which p || is_damaged (looks_of setup vs) vs p) (sym valid) in
+    subst (λ (us : List Win). is_damaged (looks_of setup us) us p ≡ (in_patch_at (looks_of setup us) us which p || is_damaged (looks_of setup (windows_after_job us)) (windows_after_job us) p)) (sym s.parts) parts
+
+-- without an invalid window nothing is done
+all_valid : (ws : List Win) → AllByRecursion (λ v. is_invalid v ≡ false) ws → windows_after_job ws ≡ ws
+all_valid [] valid = refl
+all_valid (w ∷ ws) valid = rw valid.0 (ap (λ (vs : List Win). w ∷ vs) (all_valid ws valid.1))
 
 -- ---- how many jobs are left
 
@@ -104,6 +120,9 @@ pub none_invalid : (ws : List Win) → position is_invalid ws ≡ None → AllBy
 none_invalid ws e =
     let past = ltb-false _ _ (test_false (ltb (position_or_len is_invalid ws) (length ws)) (position_or_len is_invalid ws) e) in
     recursion_from_All (λ v. is_invalid v ≡ false) ws (λ k d lt. fails_before_first is_invalid ws k d (omega arith))
+
+pub windows-no_job : (ws : List Win) → position is_invalid ws ≡ None → windows_after_job ws ≡ ws
+windows-no_job ws e = all_valid ws (none_invalid ws e)
 
 pub no_jobs : (ws : List Win) → position is_invalid ws ≡ None → count_by is_invalid ws ≡ 0
 no_jobs ws e = none_counts ws (none_invalid ws e)

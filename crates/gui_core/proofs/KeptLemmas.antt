@@ -6,27 +6,20 @@ use Rattle.std.proofs.lemmas.Bool.{cases_Bool}
 use Rattle.std.proofs.lemmas.List.{append-nil, take_all, drop_all, length-map, length_push}
 use Rattle.std.proofs.lemmas.List.Sums.{count_by-le-length}
 use Rattle.std.proofs.lemmas.Bool.Decides.{nat_tests}
-use Rattle.gfx_base.specs.declared.rect.Rect.{Rect}
-use Rattle.gfx_base.specs.Rects.{is_empty, meet}
 use Rattle.frame.specs.Pictures.{Picture}
 use Rattle.scene.specs.declared.win.Win.{Win}
-use Rattle.scene.specs.Places.{Place, place_of, number_of, AreSingle}
-use Rattle.scene.specs.Damage.{with_invalid, invalidated, area_invalidated}
+use Rattle.scene.specs.Places.{number_of, AreSingle}
 use Rattle.scene.specs.Looks.{IsPaintable}
-use Rattle.scene.proofs.CallerLemmas.{all-push}
+use Rattle.scene.proofs.CallerLemmas.{bare, length-same, bare-area, all-push}
 use Rattle.paint_ops.specs.Kinds.{Assets}
 use Rattle.gui_core.specs.Setups.{Setup, looks_of}
 use Rattle.gui_core.specs.Windows.{with_window}
 use Rattle.gui_core.specs.Jobs.{is_invalid, windows_after_job, jobs_of}
 use Rattle.gui_core.specs.States.{State, after_create, after_job, after_jobs}
 use Rattle.gui_core.specs.Machines.{Machine, IsOld, IsKept}
-use Rattle.gui_core.proofs.JobLemmas.{jobs-more, no_jobs}
+use Rattle.gui_core.proofs.JobLemmas.{jobs-more, no_jobs, width-job, height-job}
 
 -- ---- windows that differ in what is invalid alone
-
--- the window, whatever of it is invalid
-abbrev pub bare : Win → Win
-bare w = with_invalid w None
 
 -- what each window is but for its invalid rectangle, and how many there are
 pub bare-job : (ws : List Win) → map bare (windows_after_job ws) ≡ map bare ws
@@ -36,17 +29,6 @@ bare-job (w ∷ ws) =
       | inl invalid ↦ rw invalid refl
       | inr valid ↦ rw valid (ap (λ (vs : List Win). bare w ∷ vs) (bare-job ws))
     ]
-
-bare-invalidated : (clip area : Rect) (w : Win) → bare (invalidated clip area w) ≡ bare w
-bare-invalidated clip area w =
-    elim (cases_Bool (is_empty (meet area clip))) [
-      | inl e ↦ rw e refl
-      | inr e ↦ rw e refl
-    ]
-
-pub bare-area : (clip : Win → Rect) (area : Rect) (ws : List Win) → map bare (area_invalidated clip area ws) ≡ map bare ws
-bare-area clip area [] = refl
-bare-area clip area (w ∷ ws) = ap (λ (v : Win). v ∷ map bare (area_invalidated clip area ws)) (bare-invalidated (clip w) area w) ∙ ap (λ (vs : List Win). bare w ∷ vs) (bare-area clip area ws)
 
 -- what holds of windows whatever of them is invalid
 pub record Ignores (P : Win → Type 0) : Type 0 where
@@ -72,23 +54,7 @@ pub single-same : (ws vs : List Win) → map bare vs ≡ map bare ws → AreSing
 single-same ws vs e single handle =
     subst (λ (n : ℕ). n ≤ 1) (sym (sym (number_of-bare handle vs) ∙ ap (number_of handle) e ∙ number_of-bare handle ws)) (single handle)
 
-pub length-same : (ws vs : List Win) → map bare vs ≡ map bare ws → length vs ≡ length ws
-length-same ws vs e = sym (length-map vs bare) ∙ ap length e ∙ length-map ws bare
-
-places-bare : (ws : List Win) → map place_of (map bare ws) ≡ map place_of ws
-places-bare [] = refl
-places-bare (w ∷ ws) = ap (λ (qs : List Place). place_of w ∷ qs) (places-bare ws)
-
-pub places-same : (ws vs : List Win) → map bare vs ≡ map bare ws → map place_of vs ≡ map place_of ws
-places-same ws vs e = sym (places-bare vs) ∙ ap (map place_of) e ∙ places-bare ws
-
-pub places-job : (ws : List Win) → map place_of (windows_after_job ws) ≡ map place_of ws
-places-job ws = places-same ws (windows_after_job ws) (bare-job ws)
-
-pub places-invalidated : (clip : Win → Rect) (area : Rect) (ws : List Win) → map place_of (area_invalidated clip area ws) ≡ map place_of ws
-places-invalidated clip area ws = places-same ws (area_invalidated clip area ws) (bare-area clip area ws)
-
-ignores_old : (next : ℕ) → Ignores (IsOld next)
+pub ignores_old : (next : ℕ) → Ignores (IsOld next)
 ignores_old next = record { more = λ w old. old; less = λ w old. old }
 
 ignores_paintable : (assets : Assets) → Ignores (IsPaintable assets)
@@ -147,7 +113,7 @@ single-push ws w single all handle =
           omega (arith, now, before)
     ]
 
-older : (few many : ℕ) (ws : List Win) → few ≤ many → AllByRecursion (IsOld few) ws → AllByRecursion (IsOld many) ws
+pub older : (few many : ℕ) (ws : List Win) → few ≤ many → AllByRecursion (IsOld few) ws → AllByRecursion (IsOld many) ws
 older few many [] more all = tt
 older few many (w ∷ ws) more all = (let old : w.handle < few = all.0 in omega arith, older few many ws more all.1)
 
@@ -183,7 +149,7 @@ kept-create m w room now kept same few handle paintable =
 -- ---- a job
 
 pub kept-job : (m : Machine) (room : ℕ) → IsKept m room → IsKept (record m { state = after_job m.setup m.state }) room
-kept-job m room kept = kept-same m (windows_after_job m.state.windows) _ room kept (bare-job m.state.windows) (sym kept.width) (sym kept.height)
+kept-job m room kept = kept-same m (windows_after_job m.state.windows) _ room kept (bare-job m.state.windows) (width-job m.setup m.state.windows m.state.shown) (height-job m.setup m.state.windows m.state.shown)
 
 pub kept-counted : (m : Machine) (made refused room : ℕ) → IsKept m room → made ≤ m.setup.config.calls → refused ≤ made → IsKept (record m { made = made; refused = refused }) room
 kept-counted m made refused room kept few fewer = record {

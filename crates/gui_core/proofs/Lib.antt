@@ -2,7 +2,6 @@ mod AreaLemmas
 mod JobLemmas
 mod KeptLemmas
 mod CreateLemmas
-mod VisibleLemmas
 mod DamageLemmas
 mod SceneryLemmas
 mod CallLemmas

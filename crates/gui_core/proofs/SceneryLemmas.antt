@@ -1,14 +1,12 @@
 -- What the painter's picture looks at, and the calls that change nothing of it.
 use Rattle.std.proofs.Common.{◌≡◌, ℕ, ℤ, ◌+◌, zero, suc, List, [], ◌∷◌, ◌++◌, length, map, Option, Some, None, refl, sym, ap, subst, ◌∙◌}
 use Rattle.std.proofs.lemmas.List.{map-append}
-use Rattle.gfx_base.specs.declared.point.Point.{Point}
 use Rattle.gfx_base.specs.Rects.{point_at}
 use Rattle.std.proofs.Common.{pos}
 use Rattle.std.specs.Prelude.{nat_le}
 use Rattle.std.proofs.Math.Path.{fun_ext}
 use Rattle.frame.specs.Pictures.{picture_of}
 use Rattle.scene.specs.declared.win.Win.{Win}
-use Rattle.scene.specs.Painting.{Looks, painted}
 use Rattle.calls.specs.declared.call.Call.{Call}
 use Rattle.calls.specs.declared.call.Call.TheVariants.{Create, Exec, Scan}
 use Rattle.calls.specs.declared.entry.Entry.{Entry}
@@ -16,13 +14,13 @@ use Rattle.calls.specs.declared.entry.Entry.TheVariants as entry
 use Rattle.calls.specs.declared.reply.Reply.TheVariants.{Refused}
 use Rattle.calls.specs.declared.reply.Refusal.{Refusal}
 use Rattle.calls.specs.declared.reply.Refusal.TheVariants.{BadSize, NoClass, TooManyWindows}
-use Rattle.gui_core.specs.Setups.{Setup, looks_of, painter}
+use Rattle.gui_core.specs.Setups.{Setup, screen_of, looks_of, painter}
 use Rattle.gui_core.specs.Windows.{is_bad_size, new_window, with_window}
 use Rattle.gui_core.specs.Jobs.{jobs_of}
 use Rattle.gui_core.specs.States.{State, Step, Objection, opening, objections, refusal_of, unless_refused, created, after_job, after_jobs, effect, step, state_after}
 use Rattle.gui_core.specs.Promises.{window_calls}
-use Rattle.gui_core.proofs.KeptLemmas.{bare, bare-job, bare-area, length-same, places-same}
-use Rattle.gui_core.proofs.VisibleLemmas.{looks_of-same, painted-map, unseen_valid}
+use Rattle.scene.proofs.CallerLemmas.{bare, bare-area, length-same, painted-same}
+use Rattle.gui_core.proofs.KeptLemmas.{bare-job}
 
 -- ---- a refused call
 
@@ -107,19 +105,9 @@ entries_alike setup s t (entry.Call actor (Create x y w h class) ∷ es) e =
 entries_alike setup s t (entry.Call actor Exec ∷ es) e = entries_alike setup s (step setup t (entry.Call actor Exec)).state es (alike_after s t _ e (exec_alike setup t actor))
 entries_alike setup s t (entry.Call actor Scan ∷ es) e = entries_alike setup s (step setup t (entry.Call actor Scan)).state es (alike_after s t _ e (scan_alike setup t actor))
 
-painted-bare : (setup : Setup) (ws : List Win) (p : Point) → painted (looks_of setup ws) ws p ≡ painted (looks_of setup ws) (map bare ws) p
-painted-bare setup ws p = sym (painted-map (looks_of setup ws) bare ws p (unseen_valid setup ws))
-
-painted-alike : (setup : Setup) (ws vs : List Win) (p : Point) → map bare ws ≡ map bare vs → painted (looks_of setup ws) ws p ≡ painted (looks_of setup vs) vs p
-painted-alike setup ws vs p e =
-    painted-bare setup ws p
-    ∙ ap (λ (us : List Win). painted (looks_of setup ws) us p) e
-    ∙ ap (λ (looks : Looks). painted looks (map bare vs) p) (looks_of-same setup ws vs (places-same vs ws e))
-    ∙ sym (painted-bare setup vs p)
-
 pub painter-alike : (setup : Setup) (ws vs : List Win) → map bare ws ≡ map bare vs → painter setup ws ≡ painter setup vs
 painter-alike setup ws vs e =
-    ap (picture_of setup.config.w setup.config.h) (fun_ext (λ x. fun_ext (λ y. painted-alike setup ws vs (point_at (pos x) (pos y)) e)))
+    ap (picture_of setup.config.w setup.config.h) (fun_ext (λ x. fun_ext (λ y. painted-same setup.assets (screen_of setup) vs ws (point_at (pos x) (pos y)) e)))
 
 pub painting_moves_nothing : (setup : Setup) (es : List Entry) → painter setup (state_after setup (opening setup) (window_calls es)).windows ≡ painter setup (state_after setup (opening setup) es).windows
 painting_moves_nothing setup es =

@@ -9,6 +9,13 @@ pub use Rattle.scene.proofs.AncestorLemmas.{LieAlike, lie_alike, has-parent_clip
 pub use Rattle.scene.proofs.PathLemmas.{window_of-single}
 pub use Rattle.scene.proofs.StackLemmas.{FindsBack, FindsBack-same, shallow_back, AreFound, all_found, desktops, mapped_valid, mapped_given, changed_valid, set_is_changed}
 pub use Rattle.scene.proofs.PainterLemmas.{one_more_place}
+pub use Rattle.scene.proofs.VisibleLemmas.{windows_seeing-visible, is_damaged-visible, in_patch_at-get, in_patch_at-parts, painted-visible}
+pub use Rattle.scene.proofs.BareLemmas.{bare, places-same, looks-same, length-same, bare-area, bare-parts, painted-same, is_damaged-job, painted-job}
+pub use Rattle.scene.proofs.FollowLemmas.{DamageCovers-same, DamageCovers-then}
+pub use Rattle.scene.proofs.TreeLemmas.{below-away}
+pub use Rattle.scene.proofs.AreaLemmas.{places-area, AreasCover-areas}
+pub use Rattle.scene.proofs.ChangeLemmas.{AreasCover-away, AreasCover-adds, AreasCover-takes, AreasCover-changes, AreasCover-reorders, DamageCovers-alone, clips_have-found}
+pub use Rattle.scene.proofs.ListLemmas.{Adds-midst, Adds-last, Changes-midst, TakesAway-filter, Reorders-top}
 
 -- what windows leave and then others is what all leave
 pub painted_over-append : (looks : Looks) (p : Point) (behind : ℕ) (ws vs : List Win) → painted_over looks p behind (ws ++ vs) ≡ painted_over looks p (painted_over looks p behind ws) vs

@@ -6,3 +6,4 @@ pub mod Looks
 pub mod Paths
 pub mod Families
 pub mod Stacks
+pub mod Changes

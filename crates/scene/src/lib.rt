@@ -2,6 +2,7 @@
 #![tactic(auto)]
 
 mod clips;
+pub mod laws;
 mod painter;
 mod place;
 mod win;

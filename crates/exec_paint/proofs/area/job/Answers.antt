@@ -10,8 +10,8 @@ use Rattle.frame.specs.Pictures.{Picture}
 use Rattle.scene.specs.declared.win.Win.{Win}
 use Rattle.scene.specs.Clips.{clip_in}
 use Rattle.scene.specs.Looks.{screen_with}
-use Rattle.scene.specs.Damage.{in_patch}
-use Rattle.scene.proofs.CallerLemmas.{has-clip_in}
+use Rattle.scene.specs.Damage.{in_patch_at}
+use Rattle.scene.proofs.CallerLemmas.{has-clip_in, in_patch_at-get}
 use Rattle.scene.specs.Places.{no_window}
 use Rattle.exec_paint.specs.Areas.{is_open}
 use Rattle.exec_paint.proofs.AreaLemmas.{looks_on, on-screen, open-patch, patch-painted, patch-empty, patch-valid, patch-outside, tiles-same, tiles-empty}
@@ -40,60 +40,65 @@ paint_area-requires-clause-area c =
     (λ r h. has-clip_in (screen_with p.width p.height) ws w r (and_parts _ _ (sym (meeting c.screen-screen.result (screen_with p.width p.height) ws w c.ground.result c.in-Some.invalid c.meet-area.result r screen clip (c.meet-area.ensures.points r)) ∙ h)).0)
     (sym c.is_empty.ensures.value ∙ c.if-not-is_empty.true)
 
-pub returns-then-not-is_empty-clause-picture : goal.returns-then-not-is_empty-clause-picture
-returns-then-not-is_empty-clause-picture c w found =
+-- the open points of the area are those of the patch
+open_is_patch : (c : goal.After-paint_area) (r : Point)
+    → is_open (looks_on c.args.assets.now c.args.stack.now c.args.target.now.picture) (drop (c.args.which + 1) c.args.stack.now) c.meet-area.result r
+    ≡ in_patch_at (looks_on c.args.assets.now c.args.stack.now c.args.target.now.picture) c.args.stack.now c.args.which r
+open_is_patch c r =
     let a = c.args in
     let p = a.target.now.picture in
     let ws = a.stack.now in
+    let w = get_or ws a.which no_window in
+    let at = slice_get-get_or ws a.which no_window c.requires.which in
     let screen = screen_is c.screen-screen.result p c.width.result c.height.result c.screen-screen.ensures c.width.ensures.value c.height.ensures in
     let looks = looks_on a.assets.now ws p in
-    let invalid = invalid_is ws a.which c.window_of-window.result.now w (Some c.in-Some.invalid) c.window_of-window.ensures found c.in-Some.is in
-    patch-painted p c.paint_area.new.target.picture looks ws w (drop (a.which + 1) ws) c.meet-area.result c.width.ensures.shape
-    (λ r. open-patch looks w (drop (a.which + 1) ws) c.meet-area.result c.in-Some.invalid r invalid
-    (meeting c.screen-screen.result (screen_with p.width p.height) ws w c.ground.result c.in-Some.invalid c.meet-area.result r screen (c.ground.ensures w found) (c.meet-area.ensures.points r)))
-    c.paint_area.ensures.picture
+    let above = drop (a.which + 1) ws in
+    let invalid = invalid_is ws a.which c.window_of-window.result.now w (Some c.in-Some.invalid) c.window_of-window.ensures at c.in-Some.is in
+    open-patch looks w above c.meet-area.result c.in-Some.invalid r invalid
+    (meeting c.screen-screen.result (screen_with p.width p.height) ws w c.ground.result c.in-Some.invalid c.meet-area.result r screen (c.ground.ensures w at) (c.meet-area.ensures.points r))
+    ∙ sym (in_patch_at-get looks ws a.which w r at)
+
+pub returns-then-not-is_empty-clause-picture : goal.returns-then-not-is_empty-clause-picture
+returns-then-not-is_empty-clause-picture c =
+    let a = c.args in
+    let p = a.target.now.picture in
+    patch-painted p c.paint_area.new.target.picture (looks_on a.assets.now a.stack.now p) a.stack.now a.which (drop (a.which + 1) a.stack.now) c.meet-area.result c.width.ensures.shape (open_is_patch c) c.paint_area.ensures.picture
 
 pub returns-then-not-is_empty-clause-tiles : goal.returns-then-not-is_empty-clause-tiles
-returns-then-not-is_empty-clause-tiles c w found =
+returns-then-not-is_empty-clause-tiles c =
+    let a = c.args in
+    let p = a.target.now.picture in
+    let looks = looks_on a.assets.now a.stack.now p in
+    tiles-same p.width p.height (λ x y. is_open looks (drop (a.which + 1) a.stack.now) c.meet-area.result (point_at (pos x) (pos y))) (λ x y. in_patch_at looks a.stack.now a.which (point_at (pos x) (pos y))) c.paint_area.result
+    (λ x y. open_is_patch c (point_at (pos x) (pos y))) c.paint_area.ensures.tiles
+
+-- where nothing is painted, the patch has no point
+no_patch : (c : goal.After-empty) (r : Point) → in_patch_at (looks_on c.args.assets.now c.args.stack.now c.args.target.now.picture) c.args.stack.now c.args.which r ≡ false
+no_patch c r =
     let a = c.args in
     let p = a.target.now.picture in
     let ws = a.stack.now in
-    let screen = screen_is c.screen-screen.result p c.width.result c.height.result c.screen-screen.ensures c.width.ensures.value c.height.ensures in
     let looks = looks_on a.assets.now ws p in
     let above = drop (a.which + 1) ws in
-    let invalid = invalid_is ws a.which c.window_of-window.result.now w (Some c.in-Some.invalid) c.window_of-window.ensures found c.in-Some.is in
-    tiles-same p.width p.height (λ x y. is_open looks above c.meet-area.result (point_at (pos x) (pos y))) (λ x y. in_patch looks w above (point_at (pos x) (pos y))) c.paint_area.result
-    (λ x y. open-patch looks w above c.meet-area.result c.in-Some.invalid (point_at (pos x) (pos y)) invalid
-    (meeting c.screen-screen.result (screen_with p.width p.height) ws w c.ground.result c.in-Some.invalid c.meet-area.result (point_at (pos x) (pos y)) screen (c.ground.ensures w found) (c.meet-area.ensures.points (point_at (pos x) (pos y)))))
-    c.paint_area.ensures.tiles
+    let w = get_or ws a.which no_window in
+    let at = slice_get-get_or ws a.which no_window c.requires.which in
+    let screen = screen_is c.screen-screen.result p c.width.result c.height.result c.screen-screen.ensures c.width.ensures.value c.height.ensures in
+    in_patch_at-get looks ws a.which w r at
+    ∙ elim c.match-window.branch [
+      | in-Some+else-not-is_empty v ↦ patch-outside looks w above v.meet-area.result v.in-Some.invalid r (invalid_is ws a.which c.window_of-window.result.now w (Some v.in-Some.invalid) c.window_of-window.ensures at v.in-Some.is)
+          (meeting c.screen-screen.result (screen_with p.width p.height) ws w v.ground.result v.in-Some.invalid v.meet-area.result r screen (v.ground.ensures w at) (v.meet-area.ensures.points r))
+          (has-empty v.meet-area.result r (sym v.is_empty.ensures.value ∙ v.if-not-is_empty.false))
+      | in_default v ↦ patch-valid looks w above r (invalid_is ws a.which c.window_of-window.result.now w None c.window_of-window.ensures at v.in_default.is)
+    ]
 
 pub returns-clause-picture : goal.returns-clause-picture
-returns-clause-picture c w found =
+returns-clause-picture c =
     let a = c.args in
-    let p = a.target.now.picture in
-    let ws = a.stack.now in
-    let looks = looks_on a.assets.now ws p in
-    let above = drop (a.which + 1) ws in
-    let screen = screen_is c.screen-screen.result p c.width.result c.height.result c.screen-screen.ensures c.width.ensures.value c.height.ensures in
-    patch-empty p looks ws w above c.width.ensures.shape (elim c.match-window.branch [
-      | in-Some+else-not-is_empty v ↦ λ r. patch-outside looks w above v.meet-area.result v.in-Some.invalid r (invalid_is ws a.which c.window_of-window.result.now w (Some v.in-Some.invalid) c.window_of-window.ensures found v.in-Some.is)
-          (meeting c.screen-screen.result (screen_with p.width p.height) ws w v.ground.result v.in-Some.invalid v.meet-area.result r screen (v.ground.ensures w found) (v.meet-area.ensures.points r))
-          (has-empty v.meet-area.result r (sym v.is_empty.ensures.value ∙ v.if-not-is_empty.false))
-      | in_default v ↦ λ r. patch-valid looks w above r (invalid_is ws a.which c.window_of-window.result.now w None c.window_of-window.ensures found v.in_default.is)
-    ])
+    patch-empty a.target.now.picture (looks_on a.assets.now a.stack.now a.target.now.picture) a.stack.now a.which c.width.ensures.shape (no_patch c)
 
 pub returns-clause-tiles : goal.returns-clause-tiles
-returns-clause-tiles c w found =
+returns-clause-tiles c =
     let a = c.args in
     let p = a.target.now.picture in
-    let ws = a.stack.now in
-    let looks = looks_on a.assets.now ws p in
-    let above = drop (a.which + 1) ws in
-    let screen = screen_is c.screen-screen.result p c.width.result c.height.result c.screen-screen.ensures c.width.ensures.value c.height.ensures in
-    let none : (r : Point) → in_patch looks w above r ≡ false = elim c.match-window.branch [
-      | in-Some+else-not-is_empty v ↦ λ r. patch-outside looks w above v.meet-area.result v.in-Some.invalid r (invalid_is ws a.which c.window_of-window.result.now w (Some v.in-Some.invalid) c.window_of-window.ensures found v.in-Some.is)
-          (meeting c.screen-screen.result (screen_with p.width p.height) ws w v.ground.result v.in-Some.invalid v.meet-area.result r screen (v.ground.ensures w found) (v.meet-area.ensures.points r))
-          (has-empty v.meet-area.result r (sym v.is_empty.ensures.value ∙ v.if-not-is_empty.false))
-      | in_default v ↦ λ r. patch-valid looks w above r (invalid_is ws a.which c.window_of-window.result.now w None c.window_of-window.ensures found v.in_default.is)
-    ] in
-    tiles-empty p.width p.height (λ x y. in_patch looks w above (point_at (pos x) (pos y))) c.empty.result (λ x y. none (point_at (pos x) (pos y))) c.empty.ensures
+    let looks = looks_on a.assets.now a.stack.now p in
+    tiles-empty p.width p.height (λ x y. in_patch_at looks a.stack.now a.which (point_at (pos x) (pos y))) c.empty.result (λ x y. no_patch c (point_at (pos x) (pos y))) c.empty.ensures
