@@ -7,6 +7,7 @@ ghost use Rattle.gfx_base.specs.Rects.{LiesIn};
 ghost use Rattle.scene.specs.declared.win.Win.{Win};
 ghost use Rattle.scene.specs.Places.{window_of, place_of, place_at};
 ghost use Rattle.scene.specs.Clips.{clip_in, corner_in};
+ghost use Rattle.scene.specs.Changes.{Adds, TakesAway, Changes, Reorders};
 ghost use Rattle.scene.specs.Families.{has_handle, family_of, without_family, on_top_of, raised, lowered, changed, places_above, StandsIn};
 ghost use Rattle.scene.specs.Stacks.{has_ancestors, IsStack, IsWindow, AreGiven, MayBecome};
 ghost use Rattle.win_tree.specs.Examples.{dot_in, small_tree, handles_of};
@@ -92,6 +93,24 @@ pub fn other_windows_stand_as_before()
     ensures lowered { (ws : List Win) (h : ℕ) (w : Win) (test : Win → Bool) → IsStack ws
         → window_of ws h ≡ Some w → h ≢ 1 → filter test (family_of h ws) ≡ []
         → filter test (lowered h ws) ≡ filter test ws }
+{}
+
+/// Does nothing. The changes are those that the laws on damage speak of: a window is added, one is
+/// taken away with those below it, one is changed in its place, and one comes with those below it
+/// to another place of the order.
+pub fn damage_covers_these_changes()
+    ensures created { (ws : List Win) (handles : ℕ) (w over : Win) → IsStack ws → AreGiven handles ws
+        → handles < w.handle → window_of ws w.parent ≡ Some over
+        → Adds ws (on_top_of w.parent (w ∷ []) ws) w }
+    ensures deleted { (ws : List Win) (w : Win) → IsStack ws → window_of ws w.handle ≡ Some w
+        → TakesAway ws (without_family w.handle ws) w }
+    ensures changed { (ws : List Win) (w : Win) (change : Win → Win) → IsStack ws
+        → window_of ws w.handle ≡ Some w → (change w).handle ≡ w.handle
+        → Changes ws (changed w.handle change ws) w (change w) }
+    ensures raised { (ws : List Win) (w : Win) → IsStack ws → window_of ws w.handle ≡ Some w
+        → w.handle ≢ 1 → Reorders ws (raised w.handle ws) w }
+    ensures lowered { (ws : List Win) (w : Win) → IsStack ws → window_of ws w.handle ≡ Some w
+        → w.handle ≢ 1 → Reorders ws (lowered w.handle ws) w }
 {}
 
 /// Does nothing. The clips of a window's descendants lie in its own, and so does its own.
