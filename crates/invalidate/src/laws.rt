@@ -43,7 +43,8 @@ pub fn nothing_is_invalidated_by_no_point()
         → invalidated clip area w ≡ w }
 {}
 
-/// Does nothing. An invalid rectangle becomes the smallest one that has its points and the new ones.
+/// Does nothing. An invalid rectangle becomes the smallest one that has its points and the new
+/// ones.
 pub fn invalid_rectangles_are_smallest()
     ensures { (old part : Rect) → IsSmallest old part (grown (Some old) part) }
 {}

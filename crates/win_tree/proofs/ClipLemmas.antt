@@ -22,11 +22,11 @@ child_clipped screen ws w v live child p here =
     has-parent_clip 7 screen (place_at ws) (place_of v) (place_of w) p up here
 
 -- what is known of each window of a family
-record IsKnown (ws : List Win) (w : Win) : Type 0 where
-  window : IsWindow w
-  found : window_of ws w.handle ≡ Some w
+pub record IsKnown (ws : List Win) (w : Win) : Type 0 where
+  pub window : IsWindow w
+  pub found : window_of ws w.handle ≡ Some w
 
-all_known : (ws us : List Win) → AllByRecursion IsWindow us → AllByRecursion (λ w. window_of ws w.handle ≡ Some w) us → AllByRecursion (IsKnown ws) us
+pub all_known : (ws us : List Win) → AllByRecursion IsWindow us → AllByRecursion (λ w. window_of ws w.handle ≡ Some w) us → AllByRecursion (IsKnown ws) us
 all_known ws [] windows found = tt
 all_known ws (w ∷ us) windows found = (record { window = windows.0; found = found.0 }, all_known ws us windows.1 found.1)
 

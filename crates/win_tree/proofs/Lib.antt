@@ -10,4 +10,5 @@ mod BlockLemmas
 mod ListLemmas
 mod ValidLemmas
 mod ClipLemmas
+mod DamageLemmas
 pub mod CallerLemmas

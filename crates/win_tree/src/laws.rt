@@ -7,6 +7,7 @@ ghost use Rattle.gfx_base.specs.Rects.{LiesIn};
 ghost use Rattle.scene.specs.declared.win.Win.{Win};
 ghost use Rattle.scene.specs.Places.{window_of, place_of, place_at};
 ghost use Rattle.scene.specs.Clips.{clip_in, corner_in};
+ghost use Rattle.scene.specs.Changes.{Adds, TakesAway, Changes, Reorders};
 ghost use Rattle.scene.specs.Families.{has_handle, family_of, without_family, on_top_of, raised, lowered, window_changed, places_above, StandsIn};
 ghost use Rattle.scene.specs.Stacks.{has_ancestors, IsStack, IsWindow, AreGiven, MayBecome};
 ghost use Rattle.win_tree.specs.Examples.{dot_in, small_tree, handles_of};
@@ -17,11 +18,14 @@ ghost use Rattle.win_tree.specs.Examples.{dot_in, small_tree, handles_of};
 pub fn families_stand_in_one_piece()
     ensures family { (ws : List Win) (h : ℕ) (w : Win) → IsStack ws → window_of ws h ≡ Some w
         → StandsIn (family_of h ws) (without_family h ws) ws }
-    ensures raised { (ws : List Win) (h : ℕ) (w : Win) → IsStack ws → window_of ws h ≡ Some w → h ≢ 1
+    ensures raised { (ws : List Win) (h : ℕ) (w : Win) → IsStack ws → window_of ws h ≡ Some w
+        → h ≢ 1
         → StandsIn (family_of h ws) (without_family h ws) (raised h ws) }
-    ensures lowered { (ws : List Win) (h : ℕ) (w : Win) → IsStack ws → window_of ws h ≡ Some w → h ≢ 1
+    ensures lowered { (ws : List Win) (h : ℕ) (w : Win) → IsStack ws → window_of ws h ≡ Some w
+        → h ≢ 1
         → StandsIn (family_of h ws) (without_family h ws) (lowered h ws) }
-    ensures created { (ws : List Win) (w over : Win) → IsStack ws → window_of ws w.parent ≡ Some over
+    ensures created { (ws : List Win) (w over : Win) → IsStack ws
+        → window_of ws w.parent ≡ Some over
         → StandsIn (w ∷ []) ws (on_top_of w.parent (w ∷ []) ws) }
 {}
 
@@ -29,7 +33,8 @@ pub fn families_stand_in_one_piece()
 /// given out before, in a parent that doesn't have the deepest level; a window deleted with its
 /// descendants, raised or lowered; and windows changed in place.
 pub fn stacks_stay_valid()
-    ensures created { (ws : List Win) (handles : ℕ) (w over : Win) → IsStack ws → AreGiven handles ws
+    ensures created { (ws : List Win) (handles : ℕ) (w over : Win) → IsStack ws
+        → AreGiven handles ws
         → handles < w.handle → window_of ws w.parent ≡ Some over → has_ancestors 7 ws over ≡ false
         → length ws < 256 → IsWindow w → IsStack (on_top_of w.parent (w ∷ []) ws) }
     ensures deleted { (ws : List Win) (h : ℕ) (w : Win) → IsStack ws → window_of ws h ≡ Some w
@@ -48,7 +53,8 @@ pub fn stacks_stay_valid()
 /// Does nothing. The handles that stand in the list are among those that were given out, after each
 /// change too: a new window has the next one.
 pub fn handles_stay_given()
-    ensures created { (ws : List Win) (handles : ℕ) (w over : Win) → IsStack ws → AreGiven handles ws
+    ensures created { (ws : List Win) (handles : ℕ) (w over : Win) → IsStack ws
+        → AreGiven handles ws
         → w.handle ≡ handles + 1 → window_of ws w.parent ≡ Some over
         → AreGiven (handles + 1) (on_top_of w.parent (w ∷ []) ws) }
     ensures deleted { (ws : List Win) (handles h : ℕ) (w : Win) → IsStack ws → AreGiven handles ws
@@ -64,7 +70,8 @@ pub fn handles_stay_given()
 /// Does nothing. What a handle finds after each change: the new window, no window of a deleted
 /// family, and else what it found before.
 pub fn handles_find_their_windows()
-    ensures created { (ws : List Win) (handles : ℕ) (w over : Win) → IsStack ws → AreGiven handles ws
+    ensures created { (ws : List Win) (handles : ℕ) (w over : Win) → IsStack ws
+        → AreGiven handles ws
         → handles < w.handle → window_of ws w.parent ≡ Some over → (x : ℕ)
         → window_of (on_top_of w.parent (w ∷ []) ws) x
         ≡ (if w.handle == x then Some w else window_of ws x) }
@@ -92,6 +99,25 @@ pub fn other_windows_stand_as_before()
     ensures lowered { (ws : List Win) (h : ℕ) (w : Win) (test : Win → Bool) → IsStack ws
         → window_of ws h ≡ Some w → h ≢ 1 → filter test (family_of h ws) ≡ []
         → filter test (lowered h ws) ≡ filter test ws }
+{}
+
+/// Does nothing. The changes are those that the laws on damage speak of: a window is added, one is
+/// taken away with those below it, one is changed in its place, and one comes with those below it
+/// to another place of the order.
+pub fn damage_covers_these_changes()
+    ensures created { (ws : List Win) (handles : ℕ) (w over : Win) → IsStack ws
+        → AreGiven handles ws
+        → handles < w.handle → window_of ws w.parent ≡ Some over
+        → Adds ws (on_top_of w.parent (w ∷ []) ws) w }
+    ensures deleted { (ws : List Win) (w : Win) → IsStack ws → window_of ws w.handle ≡ Some w
+        → TakesAway ws (without_family w.handle ws) w }
+    ensures changed { (ws : List Win) (w : Win) (change : Win → Win) → IsStack ws
+        → window_of ws w.handle ≡ Some w → (change w).handle ≡ w.handle
+        → Changes ws (window_changed w.handle change ws) w (change w) }
+    ensures raised { (ws : List Win) (w : Win) → IsStack ws → window_of ws w.handle ≡ Some w
+        → w.handle ≢ 1 → Reorders ws (raised w.handle ws) w }
+    ensures lowered { (ws : List Win) (w : Win) → IsStack ws → window_of ws w.handle ≡ Some w
+        → w.handle ≢ 1 → Reorders ws (lowered w.handle ws) w }
 {}
 
 /// Does nothing. The clips of a window's descendants lie in its own, and so does its own.
