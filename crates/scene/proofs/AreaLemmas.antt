@@ -1,6 +1,5 @@
 -- Areas that are made invalid in every window, and the damage that comes of them.
-use Rattle.std.proofs.Common.{◌≡◌, ℕ, Bool, true, false, ◌||◌, List, [], ◌∷◌, map, Option, Some, None, refl, sym, ap, subst, ◌∙◌, inl, inr}
-use Rattle.std.specs.List.{list_any}
+use Rattle.std.proofs.Common.{◌≡◌, ℕ, true, false, List, [], ◌∷◌, map, Option, Some, None, refl, sym, ap, subst, ◌∙◌, inl, inr}
 use Rattle.std.proofs.lemmas.Bool.{cases_Bool, or_left, or_right, or_cases, false≢true}
 use Rattle.gfx_base.specs.declared.point.Point.{Point}
 use Rattle.gfx_base.specs.declared.rect.Rect.{Rect}
@@ -12,7 +11,7 @@ use Rattle.scene.specs.declared.win.Win.{Win}
 use Rattle.scene.specs.Places.{Place, place_of, place_at}
 use Rattle.scene.specs.Clips.{deepest_level, corner_of, clip_of, clip_in}
 use Rattle.scene.specs.Painting.{Looks, windows_at, hides_behind}
-use Rattle.scene.specs.Damage.{some_has, is_invalid_at, in_patch, is_damaged, grown, with_invalid, invalidated, area_invalidated, areas_invalidated}
+use Rattle.scene.specs.Damage.{some_has, is_invalid_at, in_patch, is_damaged, grown, invalidated, area_invalidated, areas_invalidated}
 use Rattle.scene.specs.Looks.{is_opaque, colour_in_window, looks_of}
 use Rattle.scene.specs.Changes.{DamageCovers, areas_have, clips_have, after_areas, AreasCover}
 use Rattle.scene.proofs.PlaceLemmas.{place_at-same}

@@ -1,7 +1,6 @@
 -- The damage covers each change of the list that calls make.
-use Rattle.std.proofs.Common.{◌≡◌, ℕ, Bool, true, false, ◌||◌, cond, eqb, List, [], ◌∷◌, ◌++◌, map, get_or, filter, Option, Some, None, refl, sym, ap, subst, ◌∙◌, inl, inr, arith}
-use Rattle.std.specs.Prelude.{◌⊎◌}
-use Rattle.std.specs.List.{list_any, AllZip}
+use Rattle.std.proofs.Common.{◌≡◌, ℕ, true, false, eqb, List, [], ◌∷◌, map, Option, Some, None, refl, sym, ap, subst, ◌∙◌, inl, inr, arith}
+use Rattle.std.specs.List.{AllZip}
 use Rattle.std.proofs.Math.Path.{fun_ext}
 use Rattle.std.proofs.lemmas.Bool.{cases_Bool, or_left, or_right, or_cases, or_parts, eqb-true, false≢true}
 use Rattle.std.proofs.lemmas.Bool.Decides.{nat_tests}
@@ -12,15 +11,15 @@ use Rattle.paint_ops.specs.Kinds.{Assets}
 use Rattle.paint_ops.specs.Operations.{seen_from}
 use Rattle.scene.specs.declared.win.Win.{Win}
 use Rattle.scene.specs.Places.{Place, place_of, place_at}
-use Rattle.scene.specs.Clips.{deepest_level, corner_in, clip_of, clip_in}
+use Rattle.scene.specs.Clips.{deepest_level, clip_of, clip_in}
 use Rattle.scene.specs.Painting.{Looks, windows_at}
-use Rattle.scene.specs.Damage.{is_invalid_at, with_invalid}
+use Rattle.scene.specs.Damage.{with_invalid}
 use Rattle.scene.specs.Looks.{colour_in_window, looks_of}
-use Rattle.scene.specs.Changes.{DamageCovers, areas_have, clips_have, AreasCover, IsAway, FindAlike, LiesBelow, is_below, Adds, Fails, TakesAway, Changes, Reorders, ChangesAlone}
+use Rattle.scene.specs.Changes.{DamageCovers, areas_have, clips_have, AreasCover, IsAway, FindAlike, Adds, Fails, TakesAway, Changes, Reorders, ChangesAlone}
 use Rattle.scene.proofs.PlaceLemmas.{place_at-same}
 use Rattle.scene.proofs.VisibleLemmas.{hides}
 use Rattle.scene.proofs.FollowLemmas.{Follows, AllFollow, DamageCovers-follow}
-use Rattle.scene.proofs.TreeLemmas.{Alike, alike, below-away}
+use Rattle.scene.proofs.TreeLemmas.{alike, below-away}
 use Rattle.scene.proofs.AreaLemmas.{looks_of-found, AreasCover-follow}
 use Rattle.std.specs.Prelude.{unwrap_or}
 

@@ -1,10 +1,10 @@
 -- Windows at a point before and now, one by one, and the damage that covers what changed.
-use Rattle.std.proofs.Common.{◌≡◌, ℕ, Bool, true, false, List, [], ◌∷◌, refl, sym, ap, ◌∙◌, inl, inr}
+use Rattle.std.proofs.Common.{◌≡◌, ℕ, true, false, List, [], ◌∷◌, refl, sym, ap, ◌∙◌, inl, inr}
 use Rattle.std.specs.List.{list_any, AllZip}
 use Rattle.std.proofs.lemmas.Bool.{cases_Bool, false_from_ne_true, or_parts, or_from, false≢true}
 use Rattle.gfx_base.specs.declared.point.Point.{Point}
 use Rattle.scene.specs.declared.win.Win.{Win}
-use Rattle.scene.specs.Painting.{Looks, windows_at, hides_behind, visible, painted_over, painted}
+use Rattle.scene.specs.Painting.{Looks, windows_at, hides_behind, visible, painted_over}
 use Rattle.scene.specs.Damage.{is_invalid_at, is_damaged}
 use Rattle.scene.specs.Changes.{DamageCovers}
 use Rattle.scene.proofs.VisibleLemmas.{Hides, is_damaged-visible, painted_over-visible}

@@ -1,5 +1,5 @@
 -- Ancestors on their levels, and the windows that lie in them.
-use Rattle.std.proofs.Common.{◌≡◌, ℕ, zero, suc, ◌+◌, ◌-◌, ◌<◌, ◌≤◌, Bool, true, false, cond, eqb, pos, List, [], ◌∷◌, ◌++◌, length, take, get_or, Option, Some, None, refl, sym, ap, subst, ◌∙◌, inl, inr, arith}
+use Rattle.std.proofs.Common.{◌≡◌, ℕ, zero, suc, ◌+◌, ◌<◌, ◌≤◌, true, false, eqb, pos, List, [], ◌∷◌, ◌++◌, length, take, get_or, Option, Some, None, refl, sym, ap, subst, ◌∙◌, inl, inr, arith}
 use Rattle.std.specs.Prelude.{slice_get, option_map}
 use Rattle.std.proofs.lemmas.Int.{ints}
 use Rattle.std.proofs.lemmas.Bool.{cases_Bool, eqb-true}
@@ -13,7 +13,7 @@ use Rattle.gfx_base.specs.Rects.{point_at}
 use Rattle.scene.specs.declared.win.Win.{Win}
 use Rattle.scene.specs.declared.place.Spot.{Spot}
 use Rattle.scene.specs.declared.clips.Ancestor.{Ancestor}
-use Rattle.scene.specs.Places.{Place, place_of, place_at, window_of, parent_in, number_of}
+use Rattle.scene.specs.Places.{Place, place_of, place_at, window_of, number_of}
 use Rattle.scene.specs.Clips.{FitsLevels, corner_from, corner_of, clip_from, clip_of, outer_clip}
 use Rattle.scene.specs.Paths.{IsSettled, IsOuter, IsOnLevel, AreOnLevels}
 use Rattle.scene.proofs.SpotLemmas.{FitsLevels-top_left}

@@ -1,16 +1,16 @@
 -- A window of a tree lies inside its ancestors, so where an ancestor isn't at a point, whatever lies in it isn't either.
-use Rattle.std.proofs.Common.{◌≡◌, ℕ, zero, suc, ◌+◌, Bool, true, false, ◌&&◌, ◌||◌, cond, eqb, List, [], ◌∷◌, Option, Some, None, refl, sym, ap, ◌∙◌, inl, inr, arith}
-use Rattle.std.specs.Prelude.{◌⊎◌, not, option_map}
+use Rattle.std.proofs.Common.{◌≡◌, ℕ, zero, suc, ◌+◌, Bool, true, false, eqb, List, Option, Some, None, refl, sym, ap, ◌∙◌, inl, inr, arith}
+use Rattle.std.specs.Prelude.{not}
 use Rattle.std.specs.Option.{option_map_or}
 use Rattle.std.proofs.lemmas.Bool.{cases_Bool, and_right, and_parts, or_cases, eqb-true, false≢true, false_from_ne_true, true_from_ne_false}
 use Rattle.gfx_base.specs.declared.point.Point.{Point}
 use Rattle.gfx_base.specs.declared.rect.Rect.{Rect}
-use Rattle.gfx_base.specs.Rects.{has, meet, no_points}
+use Rattle.gfx_base.specs.Rects.{has, no_points}
 use Rattle.gfx_base.proofs.CallerLemmas.{has-meet, has-no_points}
 use Rattle.scene.specs.declared.win.Win.{Win}
-use Rattle.scene.specs.Places.{Place, place_of, place_at}
-use Rattle.scene.specs.Clips.{deepest_level, corner_from, corner_of, frame_of, clip_from, clip_of, clip_in}
-use Rattle.scene.specs.Changes.{IsAway, FindAlike, lies_below, is_below}
+use Rattle.scene.specs.Places.{Place, place_at}
+use Rattle.scene.specs.Clips.{deepest_level, corner_from, corner_of, frame_of, clip_from, clip_of}
+use Rattle.scene.specs.Changes.{FindAlike, lies_below, is_below}
 
 -- ---- a window and what it lies in
 

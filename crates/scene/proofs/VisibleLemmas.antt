@@ -1,5 +1,5 @@
 -- Which windows see a point, and that the painter's colour there depends on them alone.
-use Rattle.std.proofs.Common.{◌≡◌, ℕ, zero, suc, ◌+◌, Bool, true, false, cond, ◌||◌, ◌&&◌, List, [], ◌∷◌, ◌++◌, length, drop, Option, Some, None, refl, sym, ap, ◌∙◌, inl, inr, arith}
+use Rattle.std.proofs.Common.{◌≡◌, ℕ, zero, suc, ◌+◌, Bool, true, false, cond, ◌||◌, ◌&&◌, List, [], ◌∷◌, ◌++◌, length, drop, Option, Some, None, refl, ap, ◌∙◌, inl, inr, arith}
 use Rattle.std.specs.Prelude.{unwrap_or, is_some, not, slice_get}
 use Rattle.std.specs.List.{list_any}
 use Rattle.std.proofs.lemmas.Bool.{cases_Bool, or_parts}
@@ -12,7 +12,7 @@ use Rattle.scene.specs.declared.win.Win.{Win}
 use Rattle.scene.specs.Clips.{corner_in}
 use Rattle.scene.specs.Painting.{Looks, windows_at, hides_behind, visible, painted_over, painted}
 use Rattle.scene.specs.Damage.{is_invalid_at, is_seen, windows_seeing, in_patch, in_patch_at, is_damaged}
-use Rattle.scene.specs.Looks.{class_of, inputs_of, is_opaque, looks_of}
+use Rattle.scene.specs.Looks.{class_of, inputs_of, looks_of}
 
 -- ---- the windows that see a point
 

@@ -1,22 +1,21 @@
 -- The list's changes are such as the law on damage speaks of.
-use Rattle.std.proofs.Common.{◌≡◌, ◌≢◌, ◌⊎◌, ℕ, zero, suc, ◌+◌, ◌-◌, ◌<◌, ◌≤◌, Bool, true, false, cond, eqb, not, ◌&&◌, ◌||◌, List, [], ◌∷◌, ◌++◌, filter, Option, Some, None, refl, sym, ap, subst, ◌∙◌, inl, inr, arith, eq-eqb}
+use Rattle.std.proofs.Common.{◌≡◌, ◌≢◌, ◌⊎◌, ℕ, zero, suc, ◌+◌, ◌-◌, ◌<◌, ◌≤◌, Bool, true, false, cond, eqb, List, [], ◌∷◌, filter, Option, Some, None, refl, sym, ap, subst, ◌∙◌, inl, inr, arith, eq-eqb}
 use Rattle.std.specs.Prelude.{option_map, unwrap_or}
 use Rattle.std.specs.Option.{option_map_or}
 use Rattle.std.specs.List.{AllByRecursion}
 use Rattle.std.proofs.lemmas.Bool.{cases_Bool, cases_lt, ne_eqb, eqb-true, false≢true, and_parts, and_from, or_cases, or_left, or_right}
 use Rattle.scene.specs.declared.win.Win.{Win}
-use Rattle.scene.specs.Places.{Place, window_of, number_of, place_of, place_at}
+use Rattle.scene.specs.Places.{Place, window_of, place_of, place_at}
 use Rattle.scene.specs.Families.{has_handle, family_of, without_family, on_top_of, raised, lowered, window_changed}
-use Rattle.scene.specs.Stacks.{IsWindow, IsStack, IsShallow, AreGiven, has_ancestors}
+use Rattle.scene.specs.Stacks.{IsStack, IsShallow, AreGiven, has_ancestors}
 use Rattle.scene.specs.Changes.{lies_below, is_below, LiesBelow, Fails, Adds, TakesAway, Changes, Reorders}
 use Rattle.scene.proofs.CallerLemmas.{AreFound, all_found}
 use Rattle.win_tree.specs.Forests.{Forest, Empty, Top, order, AreChildren}
 use Rattle.win_tree.proofs.StackLemmas.{AllBy-append, AllBy-first, AllBy-last}
 use Rattle.win_tree.proofs.BlockLemmas.{AllBy-block, filter-block}
-use Rattle.win_tree.proofs.ChangeLemmas.{window_of-handle}
 use Rattle.win_tree.proofs.TreeLemmas.{window_of-absent}
 use Rattle.win_tree.proofs.ClipLemmas.{IsKnown, all_known}
-use Rattle.win_tree.proofs.ValidLemmas.{IsPlaced, placed, fam_of, rest_of, block_in, family_is, window_of-win, family_stands, raised_stands, lowered_stands, created_stands, created_found, none_given, without_found, raised_found, lowered_found}
+use Rattle.win_tree.proofs.ValidLemmas.{placed, fam_of, rest_of, block_in, family_is, window_of-win, family_stands, raised_stands, lowered_stands, created_stands, created_found, none_given, without_found, raised_found, lowered_found}
 
 -- ---- levels
 

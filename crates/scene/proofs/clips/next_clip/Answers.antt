@@ -1,7 +1,6 @@
-use Rattle.std.proofs.Common.{◌≡◌, ◌+◌, ◌<◌, length, sym, subst, ◌∙◌, arith}
+use Rattle.std.proofs.Common.{◌<◌, length, sym, arith}
 use Rattle.scene.specs.Places.{place_of, place_at}
-use Rattle.scene.specs.Paths.{IsSettled, IsOnLevel}
-use Rattle.scene.specs.Clips.{deepest_level, FitsLevels}
+use Rattle.scene.specs.Clips.{deepest_level}
 use Rattle.scene.proofs.PathLemmas.{AreOnLevels-push, IsSettled-within, FitsLevels-more}
 use Rattle.scene.proofs.clips.next_clip.Goals as goal
 
