@@ -1,5 +1,5 @@
 -- The order of a pixel's bytes, and its value by that.
-use Rattle.std.proofs.Common.{◌≡◌, ◌⊎◌, ℕ, ◌+◌, ◌-◌, ◌*◌, ◌/◌, ◌<◌, ◌≤◌, ◌^◌, Bool, true, false, cond, List, [], ◌∷◌, length, get_or, take, drop, reverse, eqb, refl, sym, ap, ◌∙◌, inl, inr, arith}
+use Rattle.std.proofs.Common.{◌≡◌, ℕ, ◌-◌, ◌≤◌, Bool, true, false, cond, List, [], ◌∷◌, length, get_or, take, drop, reverse, eqb, refl, inl, inr, arith}
 use Rattle.std.specs.Int.{w32, to_be_bytes, to_le_bytes}
 use Rattle.byteorder.specs.Endian.{big_number, little_number}
 use Rattle.pixel_format.specs.Formats.{Layout, IsFormat, byte_count, pixel_bytes, pixel_value, number_from_bytes}

@@ -1,14 +1,14 @@
 -- Tiles put into their rectangle, one after the other.
-use Rattle.std.proofs.Common.{◌≡◌, ◌≢◌, ℕ, zero, suc, ◌+◌, ◌-◌, ◌*◌, ◌/◌, ◌%◌, ◌<◌, ◌≤◌, List, [], ◌∷◌, ◌++◌, length, get_or, set, map, take, Ok, Err, refl, sym, ap, subst, ◌∙◌, inl, inr, arith, below_more}
+use Rattle.std.proofs.Common.{◌≡◌, ◌≢◌, ℕ, zero, suc, ◌+◌, ◌-◌, ◌*◌, ◌/◌, ◌%◌, ◌<◌, ◌≤◌, List, [], ◌∷◌, ◌++◌, length, get_or, set, map, Ok, Err, refl, sym, ap, subst, ◌∙◌, arith, below_more}
 use Rattle.std.specs.List.{range_with_len}
 use Rattle.std.proofs.lemmas.List.{ext_get_or, get_or-set_same, get_or-set_other}
 use Rattle.std.proofs.lemmas.List.FromFn.{get_or-map-range_with_len, length-map-range_with_len, map-range_with_len_more}
 use Rattle.std.proofs.lemmas.Nat.{div-mul-add, mod-mul-add, div-add-mod', mod_below, div_below}
 use Rattle.pixel_format.specs.Formats.{Layout}
 use Rattle.hextile.specs.declared.known.Known.{Known}
-use Rattle.hextile.specs.Tiles.{Tile, tile_count, tile_side, tile_in, tile_at, tiles_of, spot_of, nothing_known}
+use Rattle.hextile.specs.Tiles.{Tile, tile_count, tile_side, tile_at, tiles_of, spot_of, nothing_known}
 use Rattle.hextile.specs.Joining.{no_tile}
-use Rattle.hextile.specs.Reading.{Read, on_read, TileRead, read_tile, read_tiles, read_rectangle}
+use Rattle.hextile.specs.Reading.{Read, on_read, read_tile, read_tiles, read_rectangle}
 use Rattle.hextile.proofs.TilingLemmas.{side_some, side_most, place_within}
 use Rattle.hextile.proofs.ReaderLemmas.{on_ok, on_err}
 

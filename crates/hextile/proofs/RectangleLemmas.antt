@@ -1,23 +1,21 @@
 -- Rectangles as they are read, and where bytes are bad.
-use Rattle.std.proofs.Common.{◌≡◌, ℕ, zero, suc, ◌+◌, ◌-◌, ◌*◌, ◌/◌, ◌%◌, ◌<◌, ◌≤◌, List, [], ◌∷◌, ◌++◌, length, get_or, map, take, Ok, Err, refl, sym, ap, subst, ◌∙◌, inl, inr, arith}
+use Rattle.std.proofs.Common.{◌≡◌, ℕ, zero, suc, ◌+◌, ◌-◌, ◌*◌, ◌/◌, ◌%◌, ◌<◌, ◌≤◌, List, [], ◌∷◌, ◌++◌, length, get_or, map, take, Ok, Err, refl, sym, ap, subst, ◌∙◌, arith}
 use Rattle.std.specs.List.{range_with_len}
 use Rattle.std.proofs.Math.Seq.{take-append_seam, take-append-add}
-use Rattle.std.proofs.lemmas.List.{append_assoc, append-nil, length-append, get_or-drop, take-append-drop, length-take-le}
-use Rattle.std.proofs.lemmas.List.FromFn.{get_or-map-range_with_len, length-map-range_with_len}
-use Rattle.std.proofs.lemmas.Nat.{mod_below, div_below}
-use Rattle.std.proofs.lemmas.Bool.{cases_lt}
+use Rattle.std.proofs.lemmas.List.{append_assoc, append-nil, length-append}
+use Rattle.std.proofs.lemmas.List.FromFn.{length-map-range_with_len}
 use Rattle.pixel_format.specs.Formats.{Layout}
 use Rattle.hextile.specs.declared.known.Known.{Known}
-use Rattle.hextile.specs.Tiles.{Tile, tile_count, tile_side, tile_in, tile_at, tiles_of, nothing_known}
+use Rattle.hextile.specs.Tiles.{Tile, tile_count, tile_side, tile_at, tiles_of, nothing_known}
 use Rattle.hextile.specs.Meaning.{MeansTile, MeansTiles, DecodesTo}
 use Rattle.hextile.specs.Joining.{no_tile, value_by_tiles, joined, AreTiles, Begins, IsBad}
-use Rattle.hextile.specs.Reading.{Read, on_read, TileRead, read_tile, read_tiles, read_rectangle}
-use Rattle.hextile.proofs.TilingLemmas.{side_some, side_most}
+use Rattle.hextile.specs.Reading.{Read, read_tile, read_tiles, read_rectangle}
+use Rattle.hextile.proofs.TilingLemmas.{side_most}
 use Rattle.hextile.proofs.JoinLemmas.{tiles_of-joined}
-use Rattle.hextile.proofs.ReaderLemmas.{AreBytes, bytes_both, bytes_parts, Takes, Stops, ok_same, both_take}
+use Rattle.hextile.proofs.ReaderLemmas.{AreBytes, bytes_both, bytes_parts, Takes, ok_same, both_take}
 use Rattle.hextile.proofs.WordLemmas.{sides_some, has_rectangle}
 use Rattle.hextile.proofs.SoundLemmas.{Tells, both_read}
-use Rattle.hextile.proofs.TileLemmas.{TileFront, tile_sound, tile_complete}
+use Rattle.hextile.proofs.TileLemmas.{tile_sound, tile_complete}
 
 abbrev result_of : List Tile × List ℕ → Read (List Tile)
 result_of x = Ok x

@@ -1,21 +1,16 @@
 -- What is read is what the bytes mean, and what they mean is read.
-use Rattle.std.proofs.Common.{◌≡◌, ◌⊎◌, ℕ, zero, suc, ◌+◌, ◌-◌, ◌*◌, ◌/◌, ◌%◌, ◌^◌, ◌<◌, ◌≤◌, Bool, true, false, cond, not, ◌&&◌, ◌||◌, Option, Some, None, List, [], ◌∷◌, ◌++◌, length, get_or, take, drop, map, reverse, Result, Ok, Err, refl, sym, ap, subst, ◌∙◌, inl, inr, arith, ltb, leb, eqb}
-use Rattle.std.specs.Prelude.{IsSome, is_some, unwrap_or, slice_index}
-use Rattle.std.specs.List.{flat_map, range_with_len, AllByRecursion}
-use Rattle.std.proofs.lemmas.Bool.{cases_Bool, cases_lt, and_parts, ltb-true, leb-true, lt-ltb, le-ltb, eqb-true, eq-eqb}
+use Rattle.std.proofs.Common.{◌≡◌, ℕ, zero, suc, ◌+◌, ◌-◌, ◌*◌, ◌/◌, ◌%◌, ◌^◌, ◌<◌, ◌≤◌, Bool, true, false, cond, ◌&&◌, Option, Some, None, List, [], ◌∷◌, ◌++◌, length, take, drop, reverse, Ok, refl, sym, ap, subst, ◌∙◌, inl, inr, arith, ltb, leb}
+use Rattle.std.specs.Prelude.{IsSome, unwrap_or, slice_index}
+use Rattle.std.specs.List.{flat_map, AllByRecursion}
+use Rattle.std.proofs.lemmas.Bool.{cases_lt, and_parts, leb-true}
 use Rattle.std.proofs.lemmas.Bool.Decides.{nat_tests}
-use Rattle.std.proofs.lemmas.List.{append_assoc, append-nil, length-append, length-take-le, take-append-drop}
-use Rattle.std.proofs.lemmas.List.FromFn.{length-map-range_with_len}
-use Rattle.std.proofs.lemmas.Nat.{div-mul-add}
+use Rattle.std.proofs.lemmas.List.{append_assoc, append-nil, length-take-le, take-append-drop}
 use Rattle.pixel_format.specs.Formats.{Layout, IsFormat, byte_count, pixel_bytes, pixel_value, number_from_bytes}
 use Rattle.hextile.specs.declared.sub.Sub.{Sub}
-use Rattle.hextile.specs.declared.known.Known.{Known}
-use Rattle.hextile.specs.Painting.{painted_over, painted}
-use Rattle.hextile.specs.Tiles.{Tile, nothing_known}
-use Rattle.hextile.specs.Meaning.{Parts, IsMask, IsGiven, IsForeground, HasValue, IsSub, bytes_of_sub, AreListed, IsPainted, IsRaw, MeansTile}
-use Rattle.hextile.specs.Reading.{Read, on_read, read_byte, read_pixel, read_given, read_pixels, is_place, is_size, sub_from, read_sub, read_subs, read_listed, has_bit, is_mask, TileRead, painted_tile, read_painted, read_raw, read_tile}
+use Rattle.hextile.specs.Meaning.{IsForeground, HasValue, IsSub, bytes_of_sub, AreListed}
+use Rattle.hextile.specs.Reading.{Read, on_read, read_byte, read_pixel, read_given, read_pixels, is_place, is_size, sub_from, read_sub, read_subs, read_listed}
 use Rattle.hextile.proofs.SizeLemmas.{length-pixel_bytes}
-use Rattle.hextile.proofs.ReaderLemmas.{AreBytes, bytes_parts, Takes, ok_read, err_read, ok_same, on_ok, on_err, read_cases, both, both_take, byte_passes, pixel_read, pixel_short, pixel_long, byte_taken}
+use Rattle.hextile.proofs.ReaderLemmas.{AreBytes, bytes_parts, Takes, ok_same, on_ok, on_err, read_cases, both_take, byte_passes, pixel_read, pixel_short, pixel_long, byte_taken}
 
 -- ---- pixels
 

@@ -1,10 +1,10 @@
 -- Steps of loops that read, and of one that paints.
-use Rattle.std.proofs.Common.{◌≡◌, ◌⊎◌, ℕ, zero, suc, ◌+◌, ◌-◌, ◌*◌, ◌/◌, ◌%◌, ◌<◌, ◌≤◌, Bool, true, false, cond, Option, Some, None, List, [], ◌∷◌, ◌++◌, length, take, drop, replicate, set, get_or, map, Ok, Err, refl, sym, ap, subst, ◌∙◌, inl, inr, arith}
+use Rattle.std.proofs.Common.{◌≡◌, ℕ, zero, suc, ◌+◌, ◌-◌, ◌*◌, ◌/◌, ◌%◌, ◌<◌, ◌≤◌, Bool, true, false, cond, Option, Some, None, List, [], ◌∷◌, ◌++◌, length, take, drop, replicate, set, get_or, Ok, Err, refl, sym, ap, subst, ◌∙◌, inl, inr, arith}
 use Rattle.std.specs.Prelude.{unwrap_or}
-use Rattle.std.specs.List.{range_with_len, AllByRecursion, All}
+use Rattle.std.specs.List.{AllByRecursion, All}
 use Rattle.std.proofs.Math.Nat.{mul-le-mul, mul-le-mul_right}
 use Rattle.std.proofs.lemmas.Bool.{cases_Bool, and_parts, leb-true, ltb-true}
-use Rattle.std.proofs.lemmas.List.{take_more_set, take_at, length-take-le, append_assoc, append-nil, ext_get_or, length-replicate, get_or-replicate}
+use Rattle.std.proofs.lemmas.List.{take_more_set, take_at, length-take-le, ext_get_or, length-replicate, get_or-replicate}
 use Rattle.std.proofs.lemmas.List.Elements.{All-from_recursion}
 use Rattle.std.proofs.lemmas.List.FromFn.{get_or-map-range_with_len, length-map-range_with_len}
 use Rattle.std.proofs.lemmas.Nat.{div-add-mod', div-mul-add}
@@ -16,7 +16,7 @@ use Rattle.hextile.specs.Encoding.{cleared, overwritten}
 use Rattle.hextile.specs.Rows.{AreWithin, IsInTile, IsTile}
 use Rattle.hextile.specs.Reading.{Read, on_read, read_byte, read_pixel, read_given, read_pixels, is_place, is_size, sub_from, read_sub, read_subs, read_listed, has_bit, painted_tile, read_painted}
 use Rattle.hextile.proofs.RunLemmas.{length-overwritten}
-use Rattle.hextile.proofs.SubLemmas.{IsIn, cleared_point, has_in, length-cleared, overwritten_in}
+use Rattle.hextile.proofs.SubLemmas.{cleared_point, has_in, length-cleared, overwritten_in}
 use Rattle.hextile.proofs.ReaderLemmas.{on_ok, on_err, ok_same, byte_taken}
 use Rattle.hextile.proofs.SoundLemmas.{both_read}
 

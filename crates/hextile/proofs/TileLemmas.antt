@@ -1,9 +1,9 @@
 -- What a tile's mask says, and tiles as they are read.
-use Rattle.std.proofs.Common.{◌≡◌, ◌⊎◌, ℕ, zero, suc, ◌+◌, ◌-◌, ◌*◌, ◌/◌, ◌%◌, ◌^◌, ◌<◌, ◌≤◌, Bool, true, false, cond, not, ◌&&◌, ◌||◌, Option, Some, None, List, [], ◌∷◌, ◌++◌, length, get_or, map, Result, Ok, Err, refl, sym, ap, subst, ◌∙◌, inl, inr, arith, ltb, eqb}
+use Rattle.std.proofs.Common.{◌≡◌, ℕ, zero, suc, ◌+◌, ◌*◌, ◌/◌, ◌%◌, ◌^◌, ◌<◌, ◌≤◌, Bool, true, false, cond, not, ◌&&◌, ◌||◌, Option, Some, None, List, [], ◌∷◌, ◌++◌, length, Ok, refl, sym, ap, subst, ◌∙◌, inl, inr, arith, ltb, eqb}
 use Rattle.std.specs.Prelude.{IsSome, is_some, unwrap_or}
-use Rattle.std.specs.List.{flat_map, range_with_len, AllByRecursion}
+use Rattle.std.specs.List.{flat_map, AllByRecursion}
 use Rattle.std.proofs.lemmas.Bool.{cases_Bool, ltb-true}
-use Rattle.std.proofs.lemmas.List.{append_assoc, append-nil, length-append}
+use Rattle.std.proofs.lemmas.List.{append_assoc}
 use Rattle.std.proofs.lemmas.List.FromFn.{length-map-range_with_len}
 use Rattle.std.proofs.lemmas.Nat.{div-mul-add}
 use Rattle.pixel_format.specs.Formats.{Layout, pixel_bytes}
@@ -11,10 +11,10 @@ use Rattle.hextile.specs.declared.sub.Sub.{Sub}
 use Rattle.hextile.specs.declared.known.Known.{Known}
 use Rattle.hextile.specs.Painting.{painted_over, painted}
 use Rattle.hextile.specs.Tiles.{Tile, nothing_known}
-use Rattle.hextile.specs.Meaning.{Parts, IsMask, IsGiven, IsForeground, IsSub, AreListed, IsPainted, IsRaw, MeansTile}
-use Rattle.hextile.specs.Reading.{Read, on_read, read_byte, read_given, read_pixels, read_listed, has_bit, is_mask, TileRead, painted_tile, read_painted, read_raw, read_tile}
+use Rattle.hextile.specs.Meaning.{IsGiven, IsForeground, IsSub, AreListed, IsPainted, IsRaw, MeansTile}
+use Rattle.hextile.specs.Reading.{on_read, read_byte, read_given, read_pixels, read_listed, has_bit, is_mask, TileRead, painted_tile, read_painted, read_raw, read_tile}
 use Rattle.hextile.proofs.ReaderLemmas.{AreBytes, Takes, ok_same, on_ok, byte_passes}
-use Rattle.hextile.proofs.SoundLemmas.{Tells, Both, both_read, Front, given_sound, given_complete, PixelsRead, pixels_sound, pixels_complete, listed_sound, listed_complete, byte_sound}
+use Rattle.hextile.proofs.SoundLemmas.{Tells, both_read, given_sound, given_complete, pixels_sound, pixels_complete, listed_sound, listed_complete, byte_sound}
 
 -- ---- masks
 

@@ -1,16 +1,16 @@
 -- The parts of hextile data are read by readers: each can be completed wherever it is cut.
-use Rattle.std.proofs.Common.{◌≡◌, ℕ, zero, suc, ◌+◌, ◌-◌, ◌*◌, ◌/◌, ◌%◌, ◌<◌, ◌≤◌, Bool, true, false, cond, Option, List, [], ◌∷◌, ◌++◌, length, Ok, refl, sym, ap, ◌∙◌, inl, inr, arith}
-use Rattle.std.proofs.lemmas.Bool.{cases_Bool, cases_lt, and_parts, ltb-true, leb-true}
+use Rattle.std.proofs.Common.{◌≡◌, ℕ, zero, suc, ◌+◌, ◌*◌, ◌/◌, ◌%◌, ◌<◌, ◌≤◌, Bool, true, false, cond, Option, List, [], ◌∷◌, ◌++◌, length, Ok, refl, arith}
+use Rattle.std.proofs.lemmas.Bool.{and_parts, ltb-true}
 use Rattle.std.proofs.lemmas.Bool.Decides.{nat_tests}
 use Rattle.std.proofs.lemmas.List.{length-append}
 use Rattle.pixel_format.specs.Formats.{Layout}
 use Rattle.hextile.specs.declared.sub.Sub.{Sub}
 use Rattle.hextile.specs.declared.known.Known.{Known}
 use Rattle.hextile.specs.Tiles.{Tile, tile_count, tile_side, nothing_known}
-use Rattle.hextile.specs.Reading.{Read, on_read, read_byte, read_pixel, read_given, read_pixels, is_place, is_size, sub_from, read_sub, read_subs, read_listed, has_bit, is_mask, TileRead, painted_tile, read_painted, read_raw, read_tile, read_tiles, read_rectangle}
+use Rattle.hextile.specs.Reading.{on_read, read_byte, read_pixel, read_given, read_pixels, is_place, is_size, sub_from, read_sub, read_subs, read_listed, has_bit, is_mask, TileRead, painted_tile, read_painted, read_raw, read_tile, read_tiles, read_rectangle}
 use Rattle.hextile.proofs.TilingLemmas.{side_some}
 use Rattle.std.proofs.lemmas.Nat.{mod_below, div_below}
-use Rattle.hextile.proofs.ReaderLemmas.{HasWord, Gives, then_has, has_nothing, has_byte, has_pixel, byte_passed}
+use Rattle.hextile.proofs.ReaderLemmas.{HasWord, then_has, has_nothing, has_byte, has_pixel, byte_passed}
 
 pub has_given : (f : Layout) (announced : Bool) (known : Option ℕ) → HasWord (read_given f announced known)
 has_given f true known = then_has (read_pixel f) _ (has_pixel f) (λ x _. has_nothing _)

@@ -1,9 +1,6 @@
-use Rattle.std.proofs.Common.{◌≡◌, ◌*◌, ◌≤◌, ℕ, List, [], Ok, length, take, drop, replicate, refl, sym, ap, subst, ◌∙◌, arith}
-use Rattle.std.proofs.lemmas.List.{take_at, length-replicate}
-use Rattle.pixel_format.specs.Formats.{Layout}
+use Rattle.std.proofs.Common.{◌≡◌, ◌*◌, length, drop, sym, arith}
+use Rattle.std.proofs.lemmas.List.{take_at}
 use Rattle.hextile.specs.Tiles.{tiles_of}
-use Rattle.hextile.specs.Meaning.{DecodesTo}
-use Rattle.hextile.specs.Reading.{read_rectangle}
 use Rattle.hextile.proofs.SoundLemmas.{Tells}
 use Rattle.hextile.proofs.RectangleLemmas.{are_bytes, decodes, bad_stop, bad_rest, stop_left, rest_left, empty_is}
 use Rattle.hextile.proofs.decoding.decode.Goals as goal

@@ -1,4 +1,4 @@
-use Rattle.std.proofs.Common.{◌≡◌, ◌-◌, ◌*◌, length}
+use Rattle.std.proofs.Common.{◌≡◌, ◌-◌, ◌*◌}
 use Rattle.hextile.specs.Tiles.{tile_count}
 use Rattle.hextile.specs.Reading.{read_tiles, read_rectangle}
 use Rattle.hextile.proofs.PlaceLemmas.{tiles_before}

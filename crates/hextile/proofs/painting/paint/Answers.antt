@@ -1,7 +1,6 @@
-use Rattle.std.proofs.Common.{◌≡◌, ◌<◌, ◌+◌, ◌*◌, ◌/◌, length, take, get_or, refl, sym, ap, ◌∙◌, arith}
+use Rattle.std.proofs.Common.{◌≡◌, ◌<◌, ◌+◌, ◌*◌, length, take, get_or, refl, arith}
 use Rattle.std.proofs.lemmas.List.{take_more}
 use Rattle.hextile.specs.declared.sub.Sub.{Sub}
-use Rattle.hextile.specs.Painting.{painted}
 use Rattle.hextile.proofs.StepLemmas.{painted_start, painted_step, within_at, sides_at}
 use Rattle.hextile.proofs.painting.paint.Goals as goal
 

@@ -1,7 +1,5 @@
-use Rattle.std.proofs.Common.{◌≡◌, ◌*◌, ◌≤◌, ◌/◌, cond, None, length, take, sym, ap, ◌∙◌, arith}
-use Rattle.std.proofs.lemmas.Nat.{div-mul-add}
+use Rattle.std.proofs.Common.{◌≡◌, cond, None, take, arith}
 use Rattle.hextile.specs.Reading.{has_bit}
-use Rattle.hextile.proofs.SubLemmas.{tile_few}
 use Rattle.hextile.proofs.StepLemmas.{listed_fit, painted_reads, rows_of, few_points}
 use Rattle.hextile.proofs.reading.read_painted.Goals as goal
 use Rattle.hextile.proofs.reading.read_painted.Goals.{then-coloured, else-coloured}

@@ -1,6 +1,6 @@
-use Rattle.std.proofs.Common.{◌≡◌, ℕ, ◌*◌, ◌<◌, length, get_or, refl, subst, arith}
+use Rattle.std.proofs.Common.{◌≡◌, ◌<◌, length, get_or, refl, arith}
 use Rattle.std.proofs.lemmas.List.{length-set}
-use Rattle.hextile.proofs.PlaceLemmas.{IsPlaced, place_step, placed_tile, placed_others}
+use Rattle.hextile.proofs.PlaceLemmas.{place_step, placed_tile, placed_others}
 use Rattle.hextile.proofs.grid.Grid.place.Goals as goal
 
 pub loop-i-preserved : goal.loop-i-preserved

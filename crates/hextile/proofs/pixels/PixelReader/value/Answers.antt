@@ -1,4 +1,4 @@
-use Rattle.std.proofs.Common.{true, false, ◌∙◌, arith}
+use Rattle.std.proofs.Common.{true, false, ◌∙◌}
 use Rattle.hextile.proofs.PixelLemmas.{value_by_order}
 use Rattle.hextile.proofs.pixels.PixelReader.value.Goals as goal
 use Rattle.hextile.proofs.pixels.PixelReader.value.Goals.{then-self, else-self}
