@@ -16,6 +16,14 @@ tile_count side = (side + 15) / 16
 abbrev pub tile_side : ℕ → ℕ → ℕ
 tile_side side number = min 16 (side - number * 16)
 
+-- the place in a rectangle w values wide of a point of the tile with this number, told by its place
+-- in the tile
+abbrev pub spot_of : ℕ → ℕ → ℕ → ℕ
+spot_of w number i =
+    let col = number % tile_count w in
+    let width = tile_side w col in
+    (number / tile_count w * 16 + i / width) * w + (col * 16 + i % width)
+
 -- the tile in a column and a row of tiles, in a rectangle of w by h values
 abbrev pub tile_in : ℕ → ℕ → List ℕ → ℕ → ℕ → Tile
 tile_in w h values col row =

@@ -4,13 +4,21 @@
 #![tactic(auto)]
 
 mod counts;
+mod decoding;
+mod grid;
 mod known;
 pub mod laws;
+mod painting;
+mod pixels;
 mod put;
+mod reading;
 mod rectangle;
+mod refused;
 mod sub;
 mod tile;
 
+pub use decoding::decode;
 pub use known::Known;
 pub use rectangle::encode;
+pub use refused::DecodeRefused;
 pub use sub::Sub;

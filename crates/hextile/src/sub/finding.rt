@@ -67,9 +67,9 @@ fn sub_at(w: usize, points: &[u32], at: usize) -> Sub
     }
 }
 
-/// Makes the points of a subrectangle this value.
+/// Makes the points of a subrectangle this value: so many points, from a place on, in so many rows.
 #[tactic(auto, using(crate::proofs::RunLemmas::steps))]
-fn clear(points: &mut [u32], w: usize, value: u32, at: usize, width: usize, rows: usize)
+pub fn clear(points: &mut [u32], w: usize, value: u32, at: usize, width: usize, rows: usize)
     requires within { AreWithin w width (length points.old) at rows }
     requires sides { (w ≤ 16) × (rows ≤ 16) × (at ≤ 256) }
     ensures value { points.new ≡ cleared w value at width rows points.old }
