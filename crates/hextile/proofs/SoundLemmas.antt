@@ -8,7 +8,7 @@ use Rattle.std.proofs.lemmas.List.{append_assoc, append-nil, length-take-le, tak
 use Rattle.pixel_format.specs.Formats.{Layout, IsFormat, byte_count, pixel_bytes, pixel_value, number_from_bytes}
 use Rattle.hextile.specs.declared.sub.Sub.{Sub}
 use Rattle.hextile.specs.Meaning.{IsForeground, HasValue, IsSub, bytes_of_sub, AreListed}
-use Rattle.hextile.specs.Reading.{Read, on_read, read_byte, read_pixel, read_given, read_pixels, is_place, is_size, sub_from, read_sub, read_subs, read_listed}
+use Rattle.hextile.specs.Reading.{Read, on_read, read_byte, read_pixel, read_given, read_pixels, is_place, is_extent, sub_from, read_sub, read_subs, read_listed}
 use Rattle.hextile.proofs.SizeLemmas.{length-pixel_bytes}
 use Rattle.hextile.proofs.ReaderLemmas.{AreBytes, bytes_parts, Takes, ok_same, on_ok, on_err, read_cases, both_take, byte_passes, pixel_read, pixel_short, pixel_long, byte_taken}
 
@@ -184,15 +184,15 @@ pub sub_sound : (f : Layout) (coloured : Bool) (fore : Option ℕ) (width height
     → read_sub f coloured fore width height bytes ≡ Ok (s, rest) → Front bytes rest (λ front. IsSub f coloured fore width height s × (front ≡ bytes_of_sub f coloured s))
 unfolding read_sub
 sub_sound f coloured fore width height bytes s rest tells are needs e =
-    let b1 = both_read (read_given f coloured fore bytes) (λ value after. on_read (read_byte (is_place width height) after) (λ place last. on_read (read_byte (is_size width height place) last) (λ size rest. Ok (sub_from value place size, rest)))) s rest e in
+    let b1 = both_read (read_given f coloured fore bytes) (λ value after. on_read (read_byte (is_place width height) after) (λ place last. on_read (read_byte (is_extent width height place) last) (λ size rest. Ok (sub_from value place size, rest)))) s rest e in
     let value = b1.value in
     let g = given_sound f coloured fore bytes value b1.middle tells are b1.one in
-    let b2 = both_read (read_byte (is_place width height) b1.middle) (λ place last. on_read (read_byte (is_size width height place) last) (λ size rest. Ok (sub_from value place size, rest))) s rest b1.two in
+    let b2 = both_read (read_byte (is_place width height) b1.middle) (λ place last. on_read (read_byte (is_extent width height place) last) (λ size rest. Ok (sub_from value place size, rest))) s rest b1.two in
     let place = b2.value in
     let p = byte_sound (is_place width height) b1.middle place b2.middle g.are b2.one in
-    let b3 = both_read (read_byte (is_size width height place) b2.middle) (λ size rest. Ok (sub_from value place size, rest)) s rest b2.two in
+    let b3 = both_read (read_byte (is_extent width height place) b2.middle) (λ size rest. Ok (sub_from value place size, rest)) s rest b2.two in
     let size = b3.value in
-    let q = byte_sound (is_size width height place) b2.middle size b3.middle p.3 b3.one in
+    let q = byte_sound (is_extent width height place) b2.middle size b3.middle p.3 b3.one in
     let same = ok_same b3.two in
     let v = value_sound f coloured fore value g.front needs g.means in
     let fits = and_parts _ _ q.1 in
@@ -226,12 +226,12 @@ sub_complete f coloured fore width height s tells wide high is rest =
     let w : size / 16 + 1 ≡ s.width = omega (arith, is.down, is.some_height, is.some_width) in
     let h : size % 16 + 1 ≡ s.height = omega (arith, is.down, is.some_height) in
     let there : is_place width height place ≡ true = rw (x, y) (place_true s.x s.y s.width s.height is.some_width is.some_height is.across is.down) in
-    let fits : is_size width height place size ≡ true = rw (x, y, w, h) (size_true s.x s.y s.width s.height is.across is.down) in
+    let fits : is_extent width height place size ≡ true = rw (x, y, w, h) (size_true s.x s.y s.width s.height is.across is.down) in
     let made : sub_from value place size ≡ s = same_sub (sub_from value place size) s v.2 x y w h in
     let first = given_complete f coloured fore value (cond coloured (pixel_bytes f s.value) []) tells v.1 (place ∷ (size ∷ rest)) in
-    rw append_assoc (on_ok _ (λ value after. on_read (read_byte (is_place width height) after) (λ place last. on_read (read_byte (is_size width height place) last) (λ size rest. Ok (sub_from value place size, rest)))) value (place ∷ (size ∷ rest)) first
-    ∙ (on_ok _ (λ place last. on_read (read_byte (is_size width height place) last) (λ size rest. Ok (sub_from value place size, rest))) place (size ∷ rest) (byte_passes (is_place width height) place (size ∷ rest) there)
-    ∙ (on_ok _ (λ size rest. Ok (sub_from value place size, rest)) size rest (byte_passes (is_size width height place) size rest fits)
+    rw append_assoc (on_ok _ (λ value after. on_read (read_byte (is_place width height) after) (λ place last. on_read (read_byte (is_extent width height place) last) (λ size rest. Ok (sub_from value place size, rest)))) value (place ∷ (size ∷ rest)) first
+    ∙ (on_ok _ (λ place last. on_read (read_byte (is_extent width height place) last) (λ size rest. Ok (sub_from value place size, rest))) place (size ∷ rest) (byte_passes (is_place width height) place (size ∷ rest) there)
+    ∙ (on_ok _ (λ size rest. Ok (sub_from value place size, rest)) size rest (byte_passes (is_extent width height place) size rest fits)
     ∙ ap (λ t. Ok (t, rest)) made)))
   where
     place_true : (x y w h : ℕ) → 1 ≤ w → 1 ≤ h → x + w ≤ width → y + h ≤ height → (ltb x width && ltb y height) ≡ true

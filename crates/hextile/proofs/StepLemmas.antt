@@ -11,10 +11,10 @@ use Rattle.std.proofs.lemmas.Nat.{div-add-mod', div-mul-add}
 use Rattle.pixel_format.specs.Formats.{Layout}
 use Rattle.hextile.specs.declared.sub.Sub.{Sub}
 use Rattle.hextile.specs.declared.known.Known.{Known}
-use Rattle.hextile.specs.Painting.{has, painted_over, painted}
+use Rattle.hextile.specs.Painting.{sub_has, value_over, with_subs}
 use Rattle.hextile.specs.Encoding.{cleared, overwritten}
 use Rattle.hextile.specs.Rows.{AreWithin, IsInTile, IsTile}
-use Rattle.hextile.specs.Reading.{Read, on_read, read_byte, read_pixel, read_given, read_pixels, is_place, is_size, sub_from, read_sub, read_subs, read_listed, has_bit, painted_tile, read_painted}
+use Rattle.hextile.specs.Reading.{Read, on_read, read_byte, read_pixel, read_given, read_pixels, is_place, is_extent, sub_from, read_sub, read_subs, read_listed, has_bit, painted_tile, read_painted}
 use Rattle.hextile.proofs.RunLemmas.{length-overwritten}
 use Rattle.hextile.proofs.SubLemmas.{cleared_point, has_in, length-cleared, overwritten_in}
 use Rattle.hextile.proofs.ReaderLemmas.{on_ok, on_err, ok_same, byte_taken}
@@ -68,7 +68,7 @@ subs_end f coloured fore width height found left rest whole none told = sym (rw 
 
 -- ---- subrectangles that were read lie in their tile
 
-fit_made : (value : Option ℕ) (width height place size : ℕ) → is_size width height place size ≡ true → IsInTile width height (sub_from value place size)
+fit_made : (value : Option ℕ) (width height place size : ℕ) → is_extent width height place size ≡ true → IsInTile width height (sub_from value place size)
 fit_made value width height place size e =
     let parts = and_parts _ _ e in
     record { some_width = omega arith; some_height = omega arith; across = leb-true _ _ parts.0; down = leb-true _ _ parts.1 }
@@ -76,10 +76,10 @@ fit_made value width height place size e =
 sub_fits : (f : Layout) (coloured : Bool) (fore : Option ℕ) (width height : ℕ) (bytes : List ℕ) (s : Sub) (rest : List ℕ) → read_sub f coloured fore width height bytes ≡ Ok (s, rest) → IsInTile width height s
 unfolding read_sub
 sub_fits f coloured fore width height bytes s rest e =
-    let b1 = both_read (read_given f coloured fore bytes) (λ value after. on_read (read_byte (is_place width height) after) (λ place last. on_read (read_byte (is_size width height place) last) (λ size rest. Ok (sub_from value place size, rest)))) s rest e in
-    let b2 = both_read (read_byte (is_place width height) b1.middle) (λ place last. on_read (read_byte (is_size width height place) last) (λ size rest. Ok (sub_from b1.value place size, rest))) s rest b1.two in
-    let b3 = both_read (read_byte (is_size width height b2.value) b2.middle) (λ size rest. Ok (sub_from b1.value b2.value size, rest)) s rest b2.two in
-    let taken = byte_taken (is_size width height b2.value) b2.middle b3.value b3.middle b3.one in
+    let b1 = both_read (read_given f coloured fore bytes) (λ value after. on_read (read_byte (is_place width height) after) (λ place last. on_read (read_byte (is_extent width height place) last) (λ size rest. Ok (sub_from value place size, rest)))) s rest e in
+    let b2 = both_read (read_byte (is_place width height) b1.middle) (λ place last. on_read (read_byte (is_extent width height place) last) (λ size rest. Ok (sub_from b1.value place size, rest))) s rest b1.two in
+    let b3 = both_read (read_byte (is_extent width height b2.value) b2.middle) (λ size rest. Ok (sub_from b1.value b2.value size, rest)) s rest b2.two in
+    let taken = byte_taken (is_extent width height b2.value) b2.middle b3.value b3.middle b3.one in
     subst (IsInTile width height) (ok_same b3.two).0 (fit_made b1.value width height b2.value b3.value taken.1)
 
 all_and : (width height : ℕ) (found : List Sub) (s : Sub) → AllByRecursion (IsInTile width height) found → IsInTile width height s → AllByRecursion (IsInTile width height) (found ++ (s ∷ []))
@@ -126,7 +126,7 @@ cleared_in w value width (suc rows) at points (suc j) i within lt in_row =
     rw e (cleared_in w value width rows (at + w) (overwritten value at width points) j i (rw (length-overwritten value at width points within.0) within.1) (omega arith) in_row)
 
 -- a point that the subrectangle has
-has_value : (w k at : ℕ) (points : List ℕ) (s : Sub) → at ≡ s.y * w + s.x → AreWithin w s.width (length points) at s.height → has s (k % w) (k / w) ≡ true → get_or (cleared w s.value at s.width s.height points) k 0 ≡ s.value
+has_value : (w k at : ℕ) (points : List ℕ) (s : Sub) → at ≡ s.y * w + s.x → AreWithin w s.width (length points) at s.height → sub_has s (k % w) (k / w) ≡ true → get_or (cleared w s.value at s.width s.height points) k 0 ≡ s.value
 has_value w k at points s place within here =
     let parts = and_parts _ _ here in
     let across = and_parts _ _ parts.0 in
@@ -143,33 +143,33 @@ has_value w k at points s place within here =
 
 -- a point after one subrectangle more
 cleared_is : (w k at : ℕ) (points : List ℕ) (s : Sub) → s.x + s.width ≤ w → at ≡ s.y * w + s.x → AreWithin w s.width (length points) at s.height
-    → get_or (cleared w s.value at s.width s.height points) k 0 ≡ cond (has s (k % w) (k / w)) s.value (get_or points k 0)
+    → get_or (cleared w s.value at s.width s.height points) k 0 ≡ cond (sub_has s (k % w) (k / w)) s.value (get_or points k 0)
 cleared_is w k at points s across place within =
-    elim (cases_Bool (has s (k % w) (k / w))) [
+    elim (cases_Bool (sub_has s (k % w) (k / w))) [
       | inl here ↦ rw here (has_value w k at points s place within here)
       | inr off ↦ rw off (elim (cleared_point w s.value s.width s.height at points k within) [ inl in_ ↦ absurd (let f = sym (has_in w k at s across place in_.0) ∙ off in cc) | inr same ↦ same ])
     ]
 
-painted_over_more : (u v before : ℕ) (ss : List Sub) (s : Sub) → painted_over u v (ss ++ (s ∷ [])) before ≡ cond (has s u v) s.value (painted_over u v ss before)
+painted_over_more : (u v before : ℕ) (ss : List Sub) (s : Sub) → value_over u v (ss ++ (s ∷ [])) before ≡ cond (sub_has s u v) s.value (value_over u v ss before)
 painted_over_more u v before [] s = refl
-painted_over_more u v before (t ∷ ss) s = painted_over_more u v (cond (has t u v) t.value before) ss s
+painted_over_more u v before (t ∷ ss) s = painted_over_more u v (cond (sub_has t u v) t.value before) ss s
 
 pub painted_step : (w n back at : ℕ) (points now : List ℕ) (ss : List Sub) (s : Sub) → s.x + s.width ≤ w → at ≡ s.y * w + s.x → AreWithin w s.width (length points) at s.height → length points ≡ n → now ≡ cleared w s.value at s.width s.height points
-    → points ≡ painted w n back ss → now ≡ painted w n back (ss ++ (s ∷ []))
+    → points ≡ with_subs w n back ss → now ≡ with_subs w n back (ss ++ (s ∷ []))
 painted_step w n back at points now ss s across place within long wiped told =
     let long_now : length now ≡ n = ap length wiped ∙ (length-cleared w s.value s.width s.height at points within ∙ long) in
-    ext_get_or 0 now (painted w n back (ss ++ (s ∷ []))) (long_now ∙ sym (length-map-range_with_len (λ i. painted_over (i % w) (i / w) (ss ++ (s ∷ [])) back) 0 n)) (λ k lt.
+    ext_get_or 0 now (with_subs w n back (ss ++ (s ∷ []))) (long_now ∙ sym (length-map-range_with_len (λ i. value_over (i % w) (i / w) (ss ++ (s ∷ [])) back) 0 n)) (λ k lt.
     let k_in : k < n = omega (arith, lt, long_now) in
     ap (λ (ps : List ℕ). get_or ps k 0) wiped ∙ (cleared_is w k at points s across place within
-    ∙ (ap (λ (c : ℕ). cond (has s (k % w) (k / w)) s.value c) (ap (λ (ps : List ℕ). get_or ps k 0) told ∙ get_or-map-range_with_len (λ i. painted_over (i % w) (i / w) ss back) 0 n k k 0 k_in (omega arith))
+    ∙ (ap (λ (c : ℕ). cond (sub_has s (k % w) (k / w)) s.value c) (ap (λ (ps : List ℕ). get_or ps k 0) told ∙ get_or-map-range_with_len (λ i. value_over (i % w) (i / w) ss back) 0 n k k 0 k_in (omega arith))
     ∙ (sym (painted_over_more (k % w) (k / w) back ss s)
-    ∙ sym (get_or-map-range_with_len (λ i. painted_over (i % w) (i / w) (ss ++ (s ∷ [])) back) 0 n k k 0 k_in (omega arith))))))
+    ∙ sym (get_or-map-range_with_len (λ i. value_over (i % w) (i / w) (ss ++ (s ∷ [])) back) 0 n k k 0 k_in (omega arith))))))
 
-pub painted_start : (w n back : ℕ) (points : List ℕ) → points ≡ replicate n back → points ≡ painted w n back []
+pub painted_start : (w n back : ℕ) (points : List ℕ) → points ≡ replicate n back → points ≡ with_subs w n back []
 painted_start w n back points filled =
-    ext_get_or 0 points (painted w n back []) (ap length filled ∙ (length-replicate {A = ℕ} n back ∙ sym (length-map-range_with_len (λ i. painted_over (i % w) (i / w) [] back) 0 n))) (λ k lt.
+    ext_get_or 0 points (with_subs w n back []) (ap length filled ∙ (length-replicate {A = ℕ} n back ∙ sym (length-map-range_with_len (λ i. value_over (i % w) (i / w) [] back) 0 n))) (λ k lt.
     let k_in : k < n = omega (arith, lt, ap length filled, length-replicate {A = ℕ} n back) in
-    ap (λ (ps : List ℕ). get_or ps k 0) filled ∙ (get_or-replicate n k back 0 k_in ∙ sym (get_or-map-range_with_len (λ i. painted_over (i % w) (i / w) [] back) 0 n k k 0 k_in (omega arith))))
+    ap (λ (ps : List ℕ). get_or ps k 0) filled ∙ (get_or-replicate n k back 0 k_in ∙ sym (get_or-map-range_with_len (λ i. value_over (i % w) (i / w) [] back) 0 n k k 0 k_in (omega arith))))
 
 -- where a subrectangle of a tile is painted
 pub tile_rows : (w n : ℕ) (t : IsTile w n) → n / w ≡ t.height
@@ -189,13 +189,13 @@ sides_at w n at down s t is e1 e2 =
 
 pub painted_reads : (f : Layout) (known : Known) (mask width height : ℕ) (bytes : List ℕ) (back : Option ℕ) (after : List ℕ) (fore : Option ℕ) (last : List ℕ) (subs : List Sub) (rest made points : List ℕ) (background : ℕ) (kept : Option ℕ)
     → read_given f (has_bit mask 2) known.background bytes ≡ Ok (back, after) → read_given f (has_bit mask 4) known.foreground after ≡ Ok (fore, last) → read_listed f (has_bit mask 8) (has_bit mask 16) fore width height last ≡ Ok (subs, rest)
-    → height * width ≤ length points → made ≡ painted width (length (take (height * width) points)) background subs → background ≡ unwrap_or back 0 → kept ≡ cond (has_bit mask 16) None fore
+    → height * width ≤ length points → made ≡ with_subs width (length (take (height * width) points)) background subs → background ≡ unwrap_or back 0 → kept ≡ cond (has_bit mask 16) None fore
     → read_painted f known mask width height bytes ≡ Ok (record { values = take (height * width) (made ++ drop (height * width) points); after = record { background = Some background; foreground = kept } }, rest)
 unfolding read_painted
 painted_reads f known mask width height bytes back after fore last subs rest made points background kept one two three room paint ground_is kept_is =
     let long : length (take (height * width) points) ≡ height * width = length-take-le (height * width) points room in
-    let made_is : made ≡ painted width (height * width) background subs = paint ∙ ap (λ (n : ℕ). painted width n background subs) long in
-    let made_long : length made ≡ height * width = ap length made_is ∙ length-map-range_with_len (λ i. painted_over (i % width) (i / width) subs background) 0 (height * width) in
+    let made_is : made ≡ with_subs width (height * width) background subs = paint ∙ ap (λ (n : ℕ). with_subs width n background subs) long in
+    let made_long : length made ≡ height * width = ap length made_is ∙ length-map-range_with_len (λ i. value_over (i % width) (i / width) subs background) 0 (height * width) in
     let front : take (height * width) (made ++ drop (height * width) points) ≡ made = take_at made (drop (height * width) points) (height * width) made_long in
     on_ok (read_given f (has_bit mask 2) known.background bytes) (λ back after. on_read (read_given f (has_bit mask 4) known.foreground after) (λ fore last. on_read (read_listed f (has_bit mask 8) (has_bit mask 16) fore width height last) (λ subs rest. Ok (painted_tile width height (has_bit mask 16) back fore subs, rest)))) back after one
     ∙ (on_ok (read_given f (has_bit mask 4) known.foreground after) (λ fore last. on_read (read_listed f (has_bit mask 8) (has_bit mask 16) fore width height last) (λ subs rest. Ok (painted_tile width height (has_bit mask 16) back fore subs, rest))) fore last two

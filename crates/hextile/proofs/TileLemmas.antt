@@ -9,8 +9,8 @@ use Rattle.std.proofs.lemmas.Nat.{div-mul-add}
 use Rattle.pixel_format.specs.Formats.{Layout, pixel_bytes}
 use Rattle.hextile.specs.declared.sub.Sub.{Sub}
 use Rattle.hextile.specs.declared.known.Known.{Known}
-use Rattle.hextile.specs.Painting.{painted_over, painted}
-use Rattle.hextile.specs.Tiles.{Tile, nothing_known}
+use Rattle.hextile.specs.Painting.{value_over, with_subs}
+use Rattle.hextile.specs.Tiles.{TileValues, nothing_known}
 use Rattle.hextile.specs.Meaning.{IsGiven, IsForeground, IsSub, AreListed, IsPainted, IsRaw, MeansTile}
 use Rattle.hextile.specs.Reading.{on_read, read_byte, read_given, read_pixels, read_listed, has_bit, is_mask, TileRead, painted_tile, read_painted, read_raw, read_tile}
 use Rattle.hextile.proofs.ReaderLemmas.{AreBytes, Takes, ok_same, on_ok, byte_passes}
@@ -252,13 +252,13 @@ fore_known : (f : Layout) (announced : Bool) (known fore : Option ℕ) (front : 
 fore_known f true known fore front means some e = off_too e
 fore_known f false known fore front means some e = rw means.0 at some
 
-painted_long : (width height back : ℕ) (subs : List Sub) → length (painted width (height * width) back subs) ≡ height * width
-painted_long width height back subs = length-map-range_with_len (λ i. painted_over (i % width) (i / width) subs back) 0 (height * width)
+painted_long : (width height back : ℕ) (subs : List Sub) → length (with_subs width (height * width) back subs) ≡ height * width
+painted_long width height back subs = length-map-range_with_len (λ i. value_over (i % width) (i / width) subs back) 0 (height * width)
 
 rows_are : (width height : ℕ) → 1 ≤ width → height * width / width ≡ height
 rows_are width height wide = let e : height * width ≡ height * width + 0 = omega arith in ap (λ n. n / width) e ∙ div-mul-add height width 0 wide
 
-abbrev tile_with : ℕ → List ℕ → Tile
+abbrev tile_with : ℕ → List ℕ → TileValues
 tile_with width values = record { width = width; values = values }
 
 pub record TileFront (f : Layout) (known : Known) (width height : ℕ) (bytes rest : List ℕ) (read : TileRead) : Type 0 where
@@ -308,7 +308,7 @@ painted_sound f known mask width height bytes read rest tells are wide right eve
       listed = l.means.0;
       each = subst (λ (n : ℕ). AllByRecursion (IsSub f col fore width n) subs) (sym rows) l.means.1;
       spelled = refl;
-      shown = ap (λ (n : ℕ). painted width n back subs) (sym long);
+      shown = ap (λ (n : ℕ). with_subs width n back subs) (sym long);
       after_is = refl;
     } in
     record {
@@ -408,7 +408,7 @@ painted_complete f known width height values front after tells some wide high co
     let body = is.back_bytes ++ (is.fore_bytes ++ (is.sub_bytes ++ rest)) in
     let spelled : front ++ rest ≡ is.mask ∷ body = ap (λ t. t ++ rest) is.spelled ∙ ap (λ t. is.mask ∷ t) (pieces is.back_bytes is.fore_bytes is.sub_bytes rest) in
     let made = painted_read f known bg fg sub col width height is.back is.fore is.subs is.back_bytes is.fore_bytes is.sub_bytes rest tells wide high (back_complete f bg known.background is.back is.back_bytes is.is_back) is.is_fore is.listed each in
-    let shown : painted width (height * width) is.back is.subs ≡ values = sym (is.shown ∙ ap (λ (n : ℕ). painted width n is.back is.subs) count) in
+    let shown : with_subs width (height * width) is.back is.subs ≡ values = sym (is.shown ∙ ap (λ (n : ℕ). with_subs width n is.back is.subs) count) in
     let same : painted_tile width height col (Some is.back) is.fore is.subs ≡ tile_read values after = same_read (painted_tile width height col (Some is.back) is.fore is.subs) (tile_read values after) shown (sym is.after_is) in
     let next = λ (mask : ℕ) (rest : List ℕ). cond (has_bit mask 1) (read_raw f width height rest) (read_painted f known mask width height rest) in
     let whole : next is.mask body ≡ Ok (tile_read values after, rest) = rw (bits.raw, bits.bg_is, bits.fg_is, bits.sub_is, bits.col_is) (made ∙ ap (λ (t : TileRead). Ok (t, rest)) same) in
@@ -438,5 +438,5 @@ pub tile_complete : (f : Layout) (known : Known) (width height : ℕ) (values fr
 tile_complete f known width height values front after tells some wide high count means =
     elim means [
       | inl raw ↦ raw_complete f known width height values front after tells count raw
-      | inr painted ↦ painted_complete f known width height values front after tells some wide high count painted
+      | inr with_subs ↦ painted_complete f known width height values front after tells some wide high count with_subs
     ]

@@ -6,8 +6,8 @@ use Rattle.std.proofs.lemmas.List.{length-append}
 use Rattle.pixel_format.specs.Formats.{Layout}
 use Rattle.hextile.specs.declared.sub.Sub.{Sub}
 use Rattle.hextile.specs.declared.known.Known.{Known}
-use Rattle.hextile.specs.Tiles.{Tile, tile_count, tile_side, nothing_known}
-use Rattle.hextile.specs.Reading.{on_read, read_byte, read_pixel, read_given, read_pixels, is_place, is_size, sub_from, read_sub, read_subs, read_listed, has_bit, is_mask, TileRead, painted_tile, read_painted, read_raw, read_tile, read_tiles, read_rectangle}
+use Rattle.hextile.specs.Tiles.{TileValues, tiles_along, tile_side, nothing_known}
+use Rattle.hextile.specs.Reading.{on_read, read_byte, read_pixel, read_given, read_pixels, is_place, is_extent, sub_from, read_sub, read_subs, read_listed, has_bit, is_mask, TileRead, painted_tile, read_painted, read_raw, read_tile, read_tiles, read_rectangle}
 use Rattle.hextile.proofs.TilingLemmas.{side_some}
 use Rattle.std.proofs.lemmas.Nat.{mod_below, div_below}
 use Rattle.hextile.proofs.ReaderLemmas.{HasWord, then_has, has_nothing, has_byte, has_pixel, byte_passed}
@@ -24,7 +24,7 @@ has_pixels f found (suc left) = then_has (read_pixel f) (λ value rest. read_pix
 first_place : (width height : ℕ) → 1 ≤ width → 1 ≤ height → is_place width height 0 ≡ true
 first_place width height wide high = grind (arith, nat_tests)
 
-least_size : (width height place : ℕ) → is_place width height place ≡ true → is_size width height place 0 ≡ true
+least_size : (width height place : ℕ) → is_place width height place ≡ true → is_extent width height place 0 ≡ true
 least_size width height place there =
     let parts = and_parts _ _ there in
     let left : place / 16 < width = ltb-true _ _ parts.0 in
@@ -34,9 +34,9 @@ least_size width height place there =
 pub has_sub : (f : Layout) (coloured : Bool) (fore : Option ℕ) (width height : ℕ) → 1 ≤ width → 1 ≤ height → HasWord (read_sub f coloured fore width height)
 unfolding read_sub
 has_sub f coloured fore width height wide high =
-    then_has (read_given f coloured fore) (λ value after. on_read (read_byte (is_place width height) after) (λ place last. on_read (read_byte (is_size width height place) last) (λ size rest. Ok (sub_from value place size, rest)))) (has_given f coloured fore) (λ value _.
-    then_has (read_byte (is_place width height)) (λ place last. on_read (read_byte (is_size width height place) last) (λ size rest. Ok (sub_from value place size, rest))) (has_byte (is_place width height) 0 (first_place width height wide high) (omega arith)) (λ place gives.
-    then_has (read_byte (is_size width height place)) (λ size rest. Ok (sub_from value place size, rest)) (has_byte (is_size width height place) 0 (least_size width height place (byte_passed (is_place width height) place gives)) (omega arith)) (λ size _.
+    then_has (read_given f coloured fore) (λ value after. on_read (read_byte (is_place width height) after) (λ place last. on_read (read_byte (is_extent width height place) last) (λ size rest. Ok (sub_from value place size, rest)))) (has_given f coloured fore) (λ value _.
+    then_has (read_byte (is_place width height)) (λ place last. on_read (read_byte (is_extent width height place) last) (λ size rest. Ok (sub_from value place size, rest))) (has_byte (is_place width height) 0 (first_place width height wide high) (omega arith)) (λ place gives.
+    then_has (read_byte (is_extent width height place)) (λ size rest. Ok (sub_from value place size, rest)) (has_byte (is_extent width height place) 0 (least_size width height place (byte_passed (is_place width height) place gives)) (omega arith)) (λ size _.
     has_nothing (sub_from value place size))))
 
 pub has_subs : (f : Layout) (coloured : Bool) (fore : Option ℕ) (width height : ℕ) (found : List Sub) (left : ℕ) → 1 ≤ width → 1 ≤ height → HasWord (read_subs f coloured fore width height found left)
@@ -79,27 +79,27 @@ has_tile f known width height wide high =
     by_bit false mask = has_painted f known mask width height wide high
 
 -- a tile with a number that is low enough has points
-pub sides_some : (w h number : ℕ) → number < tile_count h * tile_count w → (1 ≤ tile_side w (number % tile_count w)) × (1 ≤ tile_side h (number / tile_count w))
+pub sides_some : (w h number : ℕ) → number < tiles_along h * tiles_along w → (1 ≤ tile_side w (number % tiles_along w)) × (1 ≤ tile_side h (number / tiles_along w))
 sides_some w h number lt =
-    let wide : 1 ≤ tile_count w = some_columns (tile_count h) (tile_count w) lt in
-    ((side_some w (number % tile_count w) (mod_below number (tile_count w) wide)).0, (side_some h (number / tile_count w) (div_below number (tile_count w) (tile_count h) wide lt)).0)
+    let wide : 1 ≤ tiles_along w = some_columns (tiles_along h) (tiles_along w) lt in
+    ((side_some w (number % tiles_along w) (mod_below number (tiles_along w) wide)).0, (side_some h (number / tiles_along w) (div_below number (tiles_along w) (tiles_along h) wide lt)).0)
   where
     some_columns : (rows columns : ℕ) → number < rows * columns → 1 ≤ columns
     some_columns rows zero lt = absurd (omega arith)
     some_columns rows (suc columns) lt = omega arith
 
-pub has_tiles : (f : Layout) (w h : ℕ) (known : Known) (found : List Tile) (left : ℕ) → length found + left ≡ tile_count h * tile_count w → HasWord (read_tiles f w h known found left)
+pub has_tiles : (f : Layout) (w h : ℕ) (known : Known) (found : List TileValues) (left : ℕ) → length found + left ≡ tiles_along h * tiles_along w → HasWord (read_tiles f w h known found left)
 unfolding read_tiles
 has_tiles f w h known found zero count = has_nothing found
 has_tiles f w h known found (suc left) count =
     let number = length found in
-    let width = tile_side w (number % tile_count w) in
-    let height = tile_side h (number / tile_count w) in
+    let width = tile_side w (number % tiles_along w) in
+    let height = tile_side h (number / tiles_along w) in
     let some = sides_some w h number (omega arith) in
     then_has (read_tile f known width height) (λ read rest. read_tiles f w h read.after (found ++ ((record { width = width; values = read.values }) ∷ [])) left rest) (has_tile f known width height some.0 some.1) (λ read _.
-    let next : Tile = record { width = width; values = read.values } in
+    let next : TileValues = record { width = width; values = read.values } in
     has_tiles f w h read.after (found ++ (next ∷ [])) left (omega (arith, length-append found (next ∷ []))))
 
 pub has_rectangle : (f : Layout) (w h : ℕ) → HasWord (read_rectangle f w h)
 unfolding read_rectangle
-has_rectangle f w h = has_tiles f w h nothing_known [] (tile_count h * tile_count w) (omega arith)
+has_rectangle f w h = has_tiles f w h nothing_known [] (tiles_along h * tiles_along w) (omega arith)

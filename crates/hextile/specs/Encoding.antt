@@ -3,7 +3,7 @@ use Rattle.std.specs.Prelude.{ℕ, zero, suc, ◌+◌, ◌-◌, ◌*◌, ◌/◌
 use Rattle.std.specs.List.{flat_map, prefix_len}
 use Rattle.pixel_format.specs.Formats.{Layout, byte_count, pixel_bytes}
 use Rattle.hextile.specs.declared.sub.Sub.{Sub}
-use Rattle.hextile.specs.Tiles.{Tile, tiles_of}
+use Rattle.hextile.specs.Tiles.{TileValues, tiles_of}
 use Rattle.hextile.specs.declared.known.Known.{Known}
 use Rattle.hextile.specs.Tiles.{nothing_known}
 
@@ -116,7 +116,7 @@ abbrev pub coloured_subs : Layout → List Sub → List ℕ
 coloured_subs f subs = length subs ∷ flat_map (coloured_sub f) subs
 
 -- the tile of these values
-abbrev pub tile_of : ℕ → List ℕ → Tile
+abbrev pub tile_of : ℕ → List ℕ → TileValues
 tile_of w values = record { width = w; values = values }
 
 -- one value
@@ -129,7 +129,7 @@ one_value f known c =
     }
 
 -- two values
-abbrev pub two_values : Layout → Known → Tile → ℕ → ℕ → Coded
+abbrev pub two_values : Layout → Known → TileValues → ℕ → ℕ → Coded
 two_values f known tile back fore =
     let same = is_known known.background back in
     let fore_same = is_known known.foreground fore in
@@ -142,7 +142,7 @@ two_values f known tile back fore =
     }
 
 -- more values
-abbrev pub more_values : Layout → Known → Tile → ℕ → Coded
+abbrev pub more_values : Layout → Known → TileValues → ℕ → Coded
 more_values f known tile back =
     let same = is_known known.background back in
     record {
@@ -152,37 +152,37 @@ more_values f known tile back =
     }
 
 -- the pixels themselves
-abbrev pub raw : Layout → Tile → Coded
+abbrev pub raw : Layout → TileValues → Coded
 raw f tile = record { bytes = 1 ∷ flat_map (pixel_bytes f) tile.values; after = nothing_known }
 
 -- the tile as it is, or raw where that is shorter
-abbrev pub or_raw : Layout → Tile → Coded → Coded
-or_raw f tile coded =
+abbrev pub or_shorter : Layout → TileValues → Coded → Coded
+or_shorter f tile coded =
     if nat_lt (1 + length tile.values * byte_count f) (length coded.bytes) then raw f tile
     else coded
 
 -- two values, or more where there is a third
-abbrev pub coded_by_third : Layout → Known → Tile → ℕ → ℕ → Option ℕ → Coded
+abbrev pub coded_by_third : Layout → Known → TileValues → ℕ → ℕ → Option ℕ → Coded
 coded_by_third f known tile a b None =
     let back = more_common tile.values a b in
-    or_raw f tile (two_values f known tile back (if back == a then b else a))
+    or_shorter f tile (two_values f known tile back (if back == a then b else a))
 coded_by_third f known tile a b (Some _) =
-    or_raw f tile (more_values f known tile (most_common tile.values))
+    or_shorter f tile (more_values f known tile (most_common tile.values))
 
 -- the tile whose first value is a, with b as the next other value
-abbrev pub coded_by : Layout → Known → Tile → ℕ → Option ℕ → Coded
+abbrev pub coded_by : Layout → Known → TileValues → ℕ → Option ℕ → Coded
 coded_by f known tile a None = one_value f known a
 coded_by f known tile a (Some b) =
     coded_by_third f known tile a b (find (λ x. not (x == a) && not (x == b)) tile.values)
 
-unfoldable pub coded : Layout → Known → Tile → Coded
+unfoldable pub coded : Layout → Known → TileValues → Coded
 coded f known tile =
     let a = slice_index tile.values 0 in
     coded_by f known tile a (find (λ x. not (x == a)) tile.values)
 
 -- ---- a rectangle
 
-abbrev pub coded_all : Layout → Known → List Tile → List ℕ
+abbrev pub coded_all : Layout → Known → List TileValues → List ℕ
 coded_all f known [] = []
 coded_all f known (tile ∷ tiles) =
     (coded f known tile).bytes ++ coded_all f (coded f known tile).after tiles

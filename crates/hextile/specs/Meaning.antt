@@ -4,8 +4,8 @@ use Rattle.std.specs.List.{flat_map, AllByRecursion}
 use Rattle.pixel_format.specs.Formats.{Layout, pixel_bytes}
 use Rattle.hextile.specs.declared.sub.Sub.{Sub}
 use Rattle.hextile.specs.declared.known.Known.{Known}
-use Rattle.hextile.specs.Painting.{painted}
-use Rattle.hextile.specs.Tiles.{Tile, tiles_of, nothing_known}
+use Rattle.hextile.specs.Painting.{with_subs}
+use Rattle.hextile.specs.Tiles.{TileValues, tiles_of, nothing_known}
 
 -- which parts a tile has: the bits 2, 4, 8 and 16 of its mask
 pub record Parts : Type 0 where
@@ -59,7 +59,7 @@ AreListed f true coloured subs bytes =
 AreListed f false coloured subs bytes = (subs ≡ []) × (bytes ≡ [])
 
 -- the tile is painted: a background, a foreground, and subrectangles
-pub record IsPainted (f : Layout) (known : Known) (tile : Tile) (bytes : List ℕ) (after : Known)
+pub record IsPainted (f : Layout) (known : Known) (tile : TileValues) (bytes : List ℕ) (after : Known)
     : Type 0 where
   pub parts : Parts
   pub mask : ℕ
@@ -77,12 +77,12 @@ pub record IsPainted (f : Layout) (known : Known) (tile : Tile) (bytes : List �
   pub each : AllByRecursion
       (IsSub f parts.coloured fore tile.width (length tile.values / tile.width)) subs
   pub spelled : bytes ≡ mask ∷ (back_bytes ++ (fore_bytes ++ sub_bytes))
-  pub shown : tile.values ≡ painted tile.width (length tile.values) back subs
+  pub shown : tile.values ≡ with_subs tile.width (length tile.values) back subs
   pub after_is : after
       ≡ record { background = Some back; foreground = if parts.coloured then None else fore }
 
 -- the tile's pixels follow. The other bits of the mask have no meaning
-pub record IsRaw (f : Layout) (tile : Tile) (bytes : List ℕ) (after : Known) : Type 0 where
+pub record IsRaw (f : Layout) (tile : TileValues) (bytes : List ℕ) (after : Known) : Type 0 where
   pub mask : ℕ
   pub bit : mask % 2 ≡ 1
   pub byte : mask < 256
@@ -91,11 +91,11 @@ pub record IsRaw (f : Layout) (tile : Tile) (bytes : List ℕ) (after : Known) :
   pub after_is : after ≡ nothing_known
 
 -- the bytes mean the tile where this much is known, and that much is known after it
-abbrev pub MeansTile : Layout → Known → Tile → List ℕ → Known → Type 0
+abbrev pub MeansTile : Layout → Known → TileValues → List ℕ → Known → Type 0
 MeansTile f known tile bytes after = IsRaw f tile bytes after ⊎ IsPainted f known tile bytes after
 
 -- the bytes are those of the tiles, one after the other
-abbrev pub MeansTiles : Layout → Known → List Tile → List ℕ → Type 0
+abbrev pub MeansTiles : Layout → Known → List TileValues → List ℕ → Type 0
 MeansTiles f known [] bytes = bytes ≡ []
 MeansTiles f known (tile ∷ tiles) bytes =
     (front rest : List ℕ) × (after : Known) × (bytes ≡ front ++ rest)

@@ -6,8 +6,8 @@ use denote.Ref.{Bor}
 use Rattle.hextile.specs.declared.pixels.Fault.{Fault}
 use Rattle.hextile.specs.declared.sub.Sub.{Sub}
 use Rattle.hextile.specs.declared.known.Known.{Known}
-use Rattle.hextile.specs.Painting.{painted}
-use Rattle.hextile.specs.Tiles.{Tile, tile_count, tile_side, nothing_known}
+use Rattle.hextile.specs.Painting.{with_subs}
+use Rattle.hextile.specs.Tiles.{TileValues, tiles_along, tile_side, nothing_known}
 
 abbrev pub Read : Type 0 → Type 0
 Read A = Result (A × List ℕ) ℕ
@@ -51,8 +51,8 @@ abbrev pub is_place : ℕ → ℕ → ℕ → Bool
 is_place width height place = nat_lt (place / 16) width && nat_lt (place % 16) height
 
 -- the byte tells sides that fit into the tile from that place on
-abbrev pub is_size : ℕ → ℕ → ℕ → ℕ → Bool
-is_size width height place size =
+abbrev pub is_extent : ℕ → ℕ → ℕ → ℕ → Bool
+is_extent width height place size =
     nat_le (place / 16 + (size / 16 + 1)) width && nat_le (place % 16 + (size % 16 + 1)) height
 
 abbrev pub sub_from : Option ℕ → ℕ → ℕ → Sub
@@ -69,7 +69,7 @@ unfoldable pub read_sub : Layout → Bool → Option ℕ → ℕ → ℕ → Lis
 read_sub f coloured fore width height bytes =
     on_read (read_given f coloured fore bytes) (λ value after.
     on_read (read_byte (is_place width height) after) (λ place last.
-    on_read (read_byte (is_size width height place) last) (λ size rest.
+    on_read (read_byte (is_extent width height place) last) (λ size rest.
     Ok (sub_from value place size, rest))))
 
 -- so many subrectangles, after those that were read
@@ -111,7 +111,7 @@ pub record TileRead : Type 0 where
 abbrev pub painted_tile : ℕ → ℕ → Bool → Option ℕ → Option ℕ → List Sub → TileRead
 painted_tile width height coloured back fore subs =
     record {
-      values = painted width (height * width) (unwrap_or back 0) subs;
+      values = with_subs width (height * width) (unwrap_or back 0) subs;
       after = record {
         background = Some (unwrap_or back 0);
         foreground = if coloured then None else fore;
@@ -137,16 +137,16 @@ read_tile f known width height bytes =
     else read_painted f known mask width height rest)
 
 -- the tiles from one with a number on, so many, after those that were read
-unfoldable pub read_tiles : Layout → ℕ → ℕ → Known → List Tile → ℕ → List ℕ → Read (List Tile)
+unfoldable pub read_tiles : Layout → ℕ → ℕ → Known → List TileValues → ℕ → List ℕ → Read (List TileValues)
 read_tiles f w h known found zero bytes = Ok (found, bytes)
 read_tiles f w h known found (suc left) bytes =
-    let width = tile_side w (length found % tile_count w) in
-    let height = tile_side h (length found / tile_count w) in
+    let width = tile_side w (length found % tiles_along w) in
+    let height = tile_side h (length found / tiles_along w) in
     on_read (read_tile f known width height bytes) (λ read rest.
     read_tiles f w h read.after
     (found ++ ((record { width = width; values = read.values }) ∷ [])) left rest)
 
 -- all tiles of a rectangle of w by h values
-unfoldable pub read_rectangle : Layout → ℕ → ℕ → List ℕ → Read (List Tile)
+unfoldable pub read_rectangle : Layout → ℕ → ℕ → List ℕ → Read (List TileValues)
 read_rectangle f w h bytes =
-    read_tiles f w h nothing_known [] (tile_count h * tile_count w) bytes
+    read_tiles f w h nothing_known [] (tiles_along h * tiles_along w) bytes

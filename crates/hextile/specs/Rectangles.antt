@@ -3,7 +3,7 @@ use Rattle.std.specs.Prelude.{ℕ, ℤ, pos, negsuc, ◌+◌, ◌*◌, ◌-ℤ�
 use Rattle.gfx_base.specs.declared.rect.Rect.{Rect}
 use Rattle.frame.specs.Pictures.{Picture}
 use Rattle.pixel_format.specs.Formats.{Layout, byte_count}
-use Rattle.hextile.specs.Tiles.{tile_count}
+use Rattle.hextile.specs.Tiles.{tiles_along}
 use Rattle.hextile.specs.Frames.{values_in}
 
 -- a number from 0 on as it is
@@ -28,10 +28,10 @@ pub record IsInside (r : Rect) (p : Picture) : Type 0 where
   pub bottom : r.y1 <ℤ pos p.height
 
 -- the values of its points, row by row
-abbrev pub values_of : Layout → Picture → Rect → List ℕ
-values_of f p r = values_in f p (natural r.x0) (natural r.y0) (width_of r) (height_of r)
+abbrev pub rect_values : Layout → Picture → Rect → List ℕ
+rect_values f p r = values_in f p (natural r.x0) (natural r.y0) (width_of r) (height_of r)
 
 -- room for its raw pixels and a byte for each of its tiles
 abbrev pub room_for : Layout → Rect → ℕ
 room_for f r =
-    tile_count (height_of r) * tile_count (width_of r) + height_of r * width_of r * byte_count f
+    tiles_along (height_of r) * tiles_along (width_of r) + height_of r * width_of r * byte_count f

@@ -4,13 +4,13 @@ use Rattle.std.specs.List.{range_with_len}
 use Rattle.hextile.specs.declared.known.Known.{Known}
 
 -- the values of a tile's points, row by row, and how many a row has
-pub record Tile : Type 0 where
+pub record TileValues : Type 0 where
   pub width : ℕ
   pub values : List ℕ
 
 -- how many tiles lie side by side on so many points
-abbrev pub tile_count : ℕ → ℕ
-tile_count side = (side + 15) / 16
+abbrev pub tiles_along : ℕ → ℕ
+tiles_along side = (side + 15) / 16
 
 -- the side of the tile with this number, of those that lie side by side on so many points
 abbrev pub tile_side : ℕ → ℕ → ℕ
@@ -20,12 +20,12 @@ tile_side side number = min 16 (side - number * 16)
 -- in the tile
 abbrev pub spot_of : ℕ → ℕ → ℕ → ℕ
 spot_of w number i =
-    let col = number % tile_count w in
+    let col = number % tiles_along w in
     let width = tile_side w col in
-    (number / tile_count w * 16 + i / width) * w + (col * 16 + i % width)
+    (number / tiles_along w * 16 + i / width) * w + (col * 16 + i % width)
 
 -- the tile in a column and a row of tiles, in a rectangle of w by h values
-abbrev pub tile_in : ℕ → ℕ → List ℕ → ℕ → ℕ → Tile
+abbrev pub tile_in : ℕ → ℕ → List ℕ → ℕ → ℕ → TileValues
 tile_in w h values col row =
     let width = tile_side w col in
     record {
@@ -36,12 +36,12 @@ tile_in w h values col row =
     }
 
 -- the tile with this number, from left to right and top to bottom
-unfoldable pub tile_at : ℕ → ℕ → List ℕ → ℕ → Tile
-tile_at w h values number = tile_in w h values (number % tile_count w) (number / tile_count w)
+unfoldable pub tile_at : ℕ → ℕ → List ℕ → ℕ → TileValues
+tile_at w h values number = tile_in w h values (number % tiles_along w) (number / tiles_along w)
 
 -- the tiles of a rectangle of w by h values
-abbrev pub tiles_of : ℕ → ℕ → List ℕ → List Tile
-tiles_of w h values = map (tile_at w h values) (range_with_len 0 (tile_count h * tile_count w))
+abbrev pub tiles_of : ℕ → ℕ → List ℕ → List TileValues
+tiles_of w h values = map (tile_at w h values) (range_with_len 0 (tiles_along h * tiles_along w))
 
 -- what is known before the first tile
 abbrev pub nothing_known : Known

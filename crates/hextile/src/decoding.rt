@@ -8,7 +8,7 @@ ghost use Rattle.hextile.specs.Refusals.{IsRefused};
 
 use crate::grid::Grid;
 use crate::known::Known;
-use crate::pixels::{Fault, PixelReader};
+use crate::pixels::Fault;
 use crate::reading::read_tile;
 use crate::refused::DecodeRefused;
 use crate::sub::Sub;
@@ -21,7 +21,7 @@ use std::alloc::Global;
 /// them.
 #[tactic(auto, using(crate::proofs::PlaceLemmas::tiles))]
 fn read_tiles<'a>(
-    pixels: &PixelReader,
+    format: &Format,
     grid: Grid,
     bytes: &'a [u8],
     values: &mut [u32],
@@ -29,9 +29,9 @@ fn read_tiles<'a>(
     requires sides { (grid.w ≤ 65535) × (grid.h ≤ 65535) }
     requires values { length values.old ≡ grid.h * grid.w }
     ensures { MatchResult result
-        (λ rest. read_rectangle pixels.now grid.w grid.h bytes.now
+        (λ rest. read_rectangle format.now grid.w grid.h bytes.now
         ≡ Ok (tiles_of grid.w grid.h values.new, rest.now))
-        (λ fault. read_rectangle pixels.now grid.w grid.h bytes.now ≡ Err fault.left) }
+        (λ fault. read_rectangle format.now grid.w grid.h bytes.now ≡ Err fault.left) }
 {
     let mut points = [0; MOST_POINTS];
     let mut subs = [Sub::default(); MOST_POINTS];
@@ -43,7 +43,7 @@ fn read_tiles<'a>(
     for number in 0..grid.count() {
         let width = grid.width(number);
         let height = grid.height(number);
-        let (after, left) = read_tile(pixels, known, width, height, rest, &mut points, &mut subs)?;
+        let (after, left) = read_tile(format, known, width, height, rest, &mut points, &mut subs)?;
         grid.place(number, &points[..height * width], values);
         known = after;
         rest = left;
@@ -72,9 +72,8 @@ pub fn decode(
         w: usize::from(w),
         h: usize::from(h),
     };
-    let pixels = PixelReader::new(alloc, format)?;
     let mut values = vec![in alloc; 0; grid.h * grid.w]?;
-    match read_tiles(&pixels, grid, bytes, &mut values) {
+    match read_tiles(format, grid, bytes, &mut values) {
         Ok([]) => Ok(values),
         Ok(rest) => Err(DecodeRefused::Bad {
             at: bytes.len() - rest.len(),

@@ -5,8 +5,8 @@ ghost use Rattle.pixel_format.specs.Formats.{Layout, IsFormat, byte_count, first
 ghost use Rattle.hextile.specs.declared.known.Known.{Known};
 ghost use Rattle.hextile.specs.Encoding.{coded, encoding_of};
 ghost use Rattle.hextile.specs.Meaning.{DecodesTo};
-ghost use Rattle.hextile.specs.Tiles.{Tile, tiles_of};
-ghost use Rattle.hextile.specs.Joining.{AreTiles, joined, IsBad};
+ghost use Rattle.hextile.specs.Tiles.{TileValues, tiles_of};
+ghost use Rattle.hextile.specs.Joining.{AreTiles, joined, IsBadAt};
 ghost use Rattle.hextile.specs.Examples.{two_points, two_points_bytes, four_points, four_points_bytes, two_tiles, two_tiles_bytes, one_colour, one_colour_bytes};
 
 /// Does nothing. Its clauses say what the bytes of small rectangles are in the first format.
@@ -29,23 +29,23 @@ pub fn encoding_is_hextile()
 
 /// Does nothing. Tiles that have the sides of a rectangle's tiles are those of one rectangle.
 pub fn tiles_make_rectangle()
-    ensures { (w h : ℕ) (tiles : List Tile) → 1 ≤ w → AreTiles w h tiles
+    ensures { (w h : ℕ) (tiles : List TileValues) → 1 ≤ w → AreTiles w h tiles
         → tiles_of w h (joined w h tiles) ≡ tiles }
 {}
 
 /// Does nothing. Bytes that begin with the mask 0 are bad at once, since no background is known.
 pub fn unknown_background_is_bad()
     ensures { (f : Layout) (w h : ℕ) (rest : List ℕ) → 1 ≤ w → 1 ≤ h
-        → IsBad f w h (0 ∷ rest) 0 }
+        → IsBadAt f w h (0 ∷ rest) 0 }
 {}
 
 /// Does nothing. A tile takes at most one byte more than its raw pixels, and a tile of one value at
 /// most one pixel and one byte.
 pub fn tiles_are_short()
-    ensures tile { (f : Layout) (known : Known) (tile : Tile) → IsFormat f
+    ensures tile { (f : Layout) (known : Known) (tile : TileValues) → IsFormat f
         → 1 ≤ length tile.values
         → length (coded f known tile).bytes ≤ 1 + length tile.values * byte_count f }
-    ensures one_value { (f : Layout) (known : Known) (tile : Tile) (c : ℕ) → IsFormat f
+    ensures one_value { (f : Layout) (known : Known) (tile : TileValues) (c : ℕ) → IsFormat f
         → 1 ≤ length tile.values
         → ((k : ℕ) → k < length tile.values → slice_index tile.values k ≡ c)
         → length (coded f known tile).bytes ≤ 1 + byte_count f }

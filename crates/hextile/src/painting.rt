@@ -1,7 +1,7 @@
 //! Tiles, painted as their subrectangles say.
 
 ghost use Rattle.std.specs.Prelude.{◌≡◌, ◌/◌, ◌≤◌, All, length};
-ghost use Rattle.hextile.specs.Painting.{painted};
+ghost use Rattle.hextile.specs.Painting.{with_subs};
 ghost use Rattle.hextile.specs.Rows.{IsTile, IsInTile};
 
 use crate::sub::Sub;
@@ -12,7 +12,7 @@ use crate::sub::finding::clear;
 pub fn paint(points: &mut [u32], width: usize, background: u32, subs: &[Sub])
     requires tile { IsTile width (length points.old) }
     requires inside { All (IsInTile width (length points.old / width)) subs.now }
-    ensures { points.new ≡ painted width (length points.old) background subs.now }
+    ensures { points.new ≡ with_subs width (length points.old) background subs.now }
 {
     points.fill(background);
     for s in subs {

@@ -2,12 +2,13 @@
 
 ghost use Rattle.std.specs.Prelude.{◌≡◌, ◌+◌, ◌*◌, ◌/◌, ◌<◌, ◌≤◌, true, [], ◌∷◌, All, Ok, Err, take, length, IfOk, IfErr, MatchResult};
 ghost use Rattle.hextile.specs.declared.pixels.Fault.{Fault};
-ghost use Rattle.hextile.specs.Reading.{ReadGives, read_byte, read_given, read_pixels, is_place, is_size, read_sub, read_listed, has_bit, is_mask, TileRead, read_painted, read_raw, read_tile};
+ghost use Rattle.hextile.specs.Reading.{ReadGives, read_byte, read_given, read_pixels, is_place, is_extent, read_sub, read_listed, has_bit, is_mask, TileRead, read_painted, read_raw, read_tile};
 
 use crate::known::Known;
 use crate::painting::paint;
-use crate::pixels::{Fault, PixelReader};
+use crate::pixels::{Fault, next_pixel};
 use crate::sub::Sub;
+use pixel_format::Format;
 
 /// The bits of a tile's mask.
 const RAW: u8 = 1;
@@ -34,17 +35,17 @@ fn first<'a>(bytes: &'a [u8]) -> Result<(u8, &'a [u8]), Fault>
 
 /// A pixel where one is announced, and otherwise the known value.
 fn given<'a>(
-    pixels: &PixelReader,
+    format: &Format,
     announced: bool,
     known: Option<u32>,
     bytes: &'a [u8],
 ) -> Result<(Option<u32>, &'a [u8]), Fault>
-    ensures { ReadGives (λ x. x) result (read_given pixels.now announced known bytes.now) }
+    ensures { ReadGives (λ x. x) result (read_given format.now announced known bytes.now) }
 {
     if !announced {
         return Ok((known, bytes));
     }
-    let (value, rest) = pixels.next(bytes)?;
+    let (value, rest) = next_pixel(format, bytes)?;
     Ok((Some(value), rest))
 }
 
@@ -57,7 +58,7 @@ fn is_place(width: usize, height: usize, place: u8) -> bool
 
 /// Whether a byte tells sides that fit into the tile from that place on.
 fn is_size(width: usize, height: usize, place: u8, size: u8) -> bool
-    ensures { result ≡ is_size width height place size }
+    ensures { result ≡ is_extent width height place size }
 {
     usize::from(place / 16 + (size / 16 + 1)) <= width
         && usize::from(place % 16 + (size % 16 + 1)) <= height
@@ -67,7 +68,7 @@ fn is_size(width: usize, height: usize, place: u8, size: u8) -> bool
 /// coloured.
 #[tactic(auto, unfolding(crate::specs::Reading::read_sub))]
 fn read_sub<'a>(
-    pixels: &PixelReader,
+    format: &Format,
     coloured: bool,
     foreground: Option<u32>,
     width: usize,
@@ -75,9 +76,9 @@ fn read_sub<'a>(
     bytes: &'a [u8],
 ) -> Result<(Sub, &'a [u8]), Fault>
     ensures { ReadGives (λ x. x) result
-        (read_sub pixels.now coloured foreground width height bytes.now) }
+        (read_sub format.now coloured foreground width height bytes.now) }
 {
-    let (value, after) = given(pixels, coloured, foreground, bytes)?;
+    let (value, after) = given(format, coloured, foreground, bytes)?;
     let (place, last) = first(after)?;
     if !is_place(width, height, place) {
         return Err(Fault { left: after.len() });
@@ -100,7 +101,7 @@ fn read_sub<'a>(
 /// They are put into `subs`, and the answer is how many there are.
 #[tactic(auto, using(crate::proofs::StepLemmas::reads))]
 fn read_listed<'a>(
-    pixels: &PixelReader,
+    format: &Format,
     listed: bool,
     coloured: bool,
     foreground: Option<u32>,
@@ -111,7 +112,7 @@ fn read_listed<'a>(
 ) -> Result<(usize, &'a [u8]), Fault>
     requires room { length subs.old ≡ 256 }
     ensures subs { ReadGives (λ count. take count subs.new) result
-        (read_listed pixels.now listed coloured foreground width height bytes.now) }
+        (read_listed format.now listed coloured foreground width height bytes.now) }
     ensures few { IfOk result (λ x. x.0 ≤ 255) }
 {
     if !listed {
@@ -119,7 +120,7 @@ fn read_listed<'a>(
     }
     let (count, mut rest) = first(bytes)?;
     for i in 0..usize::from(count) {
-        let (sub, after) = read_sub(pixels, coloured, foreground, width, height, rest)?;
+        let (sub, after) = read_sub(format, coloured, foreground, width, height, rest)?;
         subs[i] = sub;
         rest = after;
     }
@@ -129,19 +130,19 @@ fn read_listed<'a>(
 /// So many pixels, of which the values are put into `points`. The answer is what follows them.
 #[tactic(auto, using(crate::proofs::StepLemmas::reads))]
 fn read_pixels<'a>(
-    pixels: &PixelReader,
+    format: &Format,
     count: usize,
     bytes: &'a [u8],
     points: &mut [u32],
 ) -> Result<&'a [u8], Fault>
     requires room { count ≤ length points.old }
     ensures { MatchResult result
-        (λ rest. read_pixels pixels.now [] count bytes.now ≡ Ok (take count points.new, rest.now))
-        (λ fault. read_pixels pixels.now [] count bytes.now ≡ Err fault.left) }
+        (λ rest. read_pixels format.now [] count bytes.now ≡ Ok (take count points.new, rest.now))
+        (λ fault. read_pixels format.now [] count bytes.now ≡ Err fault.left) }
 {
     let mut rest = bytes;
     for i in 0..count {
-        let (value, after) = pixels.next(rest)?;
+        let (value, after) = next_pixel(format, rest)?;
         points[i] = value;
         rest = after;
     }
@@ -175,7 +176,7 @@ fn is_mask(known: Known, mask: u8) -> bool
 /// A tile's pixels.
 #[tactic(auto, unfolding(crate::specs::Reading::read_raw))]
 fn read_raw<'a>(
-    pixels: &PixelReader,
+    format: &Format,
     width: usize,
     height: usize,
     bytes: &'a [u8],
@@ -185,9 +186,9 @@ fn read_raw<'a>(
     requires room { height * width ≤ length points.old }
     ensures { ReadGives
         (λ after. record { values = take (height * width) points.new; after = after })
-        result (read_raw pixels.now width height bytes.now) }
+        result (read_raw format.now width height bytes.now) }
 {
-    let rest = read_pixels(pixels, height * width, bytes, points)?;
+    let rest = read_pixels(format, height * width, bytes, points)?;
     let nothing = Known {
         background: None,
         foreground: None,
@@ -198,7 +199,7 @@ fn read_raw<'a>(
 /// A tile that is painted: a background, a foreground and subrectangles, as the mask says.
 #[tactic(auto, unfolding(crate::specs::Reading::read_painted))]
 fn read_painted<'a>(
-    pixels: &PixelReader,
+    format: &Format,
     known: Known,
     mask: u8,
     width: usize,
@@ -211,13 +212,13 @@ fn read_painted<'a>(
     requires work { (length points.old ≡ 256) × (length subs.old ≡ 256) }
     ensures { ReadGives
         (λ after. record { values = take (height * width) points.new; after = after })
-        result (read_painted pixels.now known mask width height bytes.now) }
+        result (read_painted format.now known mask width height bytes.now) }
 {
     let coloured = has_bit(mask, COLOURED);
-    let (back, after) = given(pixels, has_bit(mask, BACKGROUND), known.background, bytes)?;
-    let (fore, last) = given(pixels, has_bit(mask, FOREGROUND), known.foreground, after)?;
+    let (back, after) = given(format, has_bit(mask, BACKGROUND), known.background, bytes)?;
+    let (fore, last) = given(format, has_bit(mask, FOREGROUND), known.foreground, after)?;
     let listed = has_bit(mask, SUBRECTS);
-    let (count, rest) = read_listed(pixels, listed, coloured, fore, width, height, last, subs)?;
+    let (count, rest) = read_listed(format, listed, coloured, fore, width, height, last, subs)?;
     let background = back.unwrap_or(0);
     let tile = &mut points[..height * width];
     paint(tile, width, background, &subs[..count]);
@@ -232,7 +233,7 @@ fn read_painted<'a>(
 /// known after it.
 #[tactic(auto, unfolding(crate::specs::Reading::read_tile))]
 pub fn read_tile<'a>(
-    pixels: &PixelReader,
+    format: &Format,
     known: Known,
     width: usize,
     height: usize,
@@ -244,15 +245,15 @@ pub fn read_tile<'a>(
     requires work { (length points.old ≡ 256) × (length subs.old ≡ 256) }
     ensures { ReadGives
         (λ after. record { values = take (height * width) points.new; after = after })
-        result (read_tile pixels.now known width height bytes.now) }
+        result (read_tile format.now known width height bytes.now) }
 {
     let (mask, rest) = first(bytes)?;
     if !is_mask(known, mask) {
         return Err(Fault { left: bytes.len() });
     }
     if has_bit(mask, RAW) {
-        read_raw(pixels, width, height, rest, points)
+        read_raw(format, width, height, rest, points)
     } else {
-        read_painted(pixels, known, mask, width, height, rest, points, subs)
+        read_painted(format, known, mask, width, height, rest, points, subs)
     }
 }

@@ -4,10 +4,10 @@ ghost use Rattle.std.specs.Prelude.{◌≡◌, ℕ, ◌+◌, ◌*◌, ◌/◌, �
 ghost use Rattle.std.specs.List.{range_with_len};
 ghost use Rattle.frame.specs.Pictures.{colour_at};
 ghost use Rattle.pixel_format.specs.Formats.{byte_count, value_of};
-ghost use Rattle.hextile.specs.Tiles.{tile_side, tile_count, tile_at};
+ghost use Rattle.hextile.specs.Tiles.{tile_side, tiles_along, tile_at};
 ghost use Rattle.hextile.specs.Encoding.{encoding_of, tile_of};
-ghost use Rattle.hextile.specs.Frames.{values_in, IsPart};
-ghost use Rattle.hextile.specs.Rectangles.{natural, IsInside, width_of, height_of, values_of, room_for};
+ghost use Rattle.hextile.specs.Frames.{values_in, IsPartOf};
+ghost use Rattle.hextile.specs.Rectangles.{natural, IsInside, width_of, height_of, rect_values, room_for};
 ghost use Rattle.hextile.specs.Rows.{IsTile};
 
 use crate::known::Known;
@@ -23,7 +23,7 @@ const TILE_SIDE: u16 = 16;
 /// How many tiles lie side by side on so many points.
 fn tile_count(side: u16) -> u16
     requires { side ≤ 1024 }
-    ensures { result ≡ tile_count side }
+    ensures { result ≡ tiles_along side }
 {
     (side + (TILE_SIDE - 1)) / TILE_SIDE
 }
@@ -39,7 +39,7 @@ fn tile_side(side: u16, number: u16) -> u16
 
 /// Puts the values of a part of a frame into `points`. The answer is how many there are.
 fn load(frame: &Frame, format: &Format, x: u16, y: u16, w: u16, h: u16, points: &mut [u32]) -> usize
-    requires part { IsPart frame.now.picture x y w h }
+    requires part { IsPartOf frame.now.picture x y w h }
     requires sides { (w ≤ 16) × (h ≤ 16) × (frame.now.picture.width ≤ 1024)
         × (frame.now.picture.height ≤ 768) }
     requires room { length points.old ≡ 256 }
@@ -74,8 +74,8 @@ fn load_tile(
     number: u16,
     points: &mut [u32],
 ) -> (usize, usize)
-    requires part { IsPart frame.now.picture x y w h }
-    requires number { number < tile_count h * tile_count w }
+    requires part { IsPartOf frame.now.picture x y w h }
+    requires number { number < tiles_along h * tiles_along w }
     requires room { length points.old ≡ 256 }
     ensures tile { tile_of result.0 (take result.1 points.new)
         ≡ tile_at w h (values_in format.now frame.now.picture x y w h) number }
@@ -104,9 +104,9 @@ fn load_tile(
 /// Appends the bytes of a part of a frame: the w by h points from column x and row y on. There is
 /// room for the raw pixels and a byte for each tile.
 fn encode_part(frame: &Frame, x: u16, y: u16, w: u16, h: u16, format: &Format, out: &mut Vec<u8>)
-    requires part { IsPart frame.now.picture x y w h }
+    requires part { IsPartOf frame.now.picture x y w h }
     requires room { vec_len out.old
-        + (tile_count h * tile_count w + h * w * byte_count format.now) ≤ vec_capacity out.old }
+        + (tiles_along h * tiles_along w + h * w * byte_count format.now) ≤ vec_capacity out.old }
     ensures bytes { out.new.items ≡ out.old.items
         ++ encoding_of format.now w h (values_in format.now frame.now.picture x y w h) }
     ensures room { vec_capacity out.new ≡ vec_capacity out.old }
@@ -160,7 +160,7 @@ pub fn encode(frame: &Frame, rect: &Rect, format: &Format, out: &mut Vec<u8>)
     requires room { vec_len out.old + room_for format.now rect.now ≤ vec_capacity out.old }
     ensures bytes { out.new.items ≡ out.old.items
         ++ encoding_of format.now (width_of rect.now) (height_of rect.now)
-        (values_of format.now frame.now.picture rect.now) }
+        (rect_values format.now frame.now.picture rect.now) }
     ensures room { vec_capacity out.new ≡ vec_capacity out.old }
 {
     let _frame_width = frame.width();

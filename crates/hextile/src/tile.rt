@@ -4,7 +4,7 @@ ghost use Rattle.std.specs.Prelude.{◌≡◌, ◌+◌, ◌*◌, ◌<◌, ◌≤
 ghost use Rattle.std.specs.List.{flat_map};
 ghost use Rattle.pixel_format.specs.Formats.{byte_count, pixel_bytes};
 ghost use Rattle.hextile.specs.Tiles.{nothing_known};
-ghost use Rattle.hextile.specs.Encoding.{subrects, one_value, two_values, more_values, raw, or_raw, coded, coded_by, coded_by_third, tile_of};
+ghost use Rattle.hextile.specs.Encoding.{subrects, one_value, two_values, more_values, raw, or_shorter, coded, coded_by, coded_by_third, tile_of};
 ghost use Rattle.hextile.specs.Rows.{IsTile, IsSmall, HasPoint};
 
 use crate::counts::{more_common, most_common, other_than, other_than_both};
@@ -83,9 +83,9 @@ fn put_two(
     requires work { (length left.old ≡ 256) × (length subs.old ≡ 256) }
     requires room { vec_len out.old + (1 + length points.now * byte_count format.now)
         ≤ vec_capacity out.old }
-    ensures bytes { out.new.items ≡ out.old.items ++ (or_raw format.now (tile_of w points.now)
+    ensures bytes { out.new.items ≡ out.old.items ++ (or_shorter format.now (tile_of w points.now)
         (two_values format.now known (tile_of w points.now) back fore)).bytes }
-    ensures after { result ≡ (or_raw format.now (tile_of w points.now)
+    ensures after { result ≡ (or_shorter format.now (tile_of w points.now)
         (two_values format.now known (tile_of w points.now) back fore)).after }
     ensures room { vec_capacity out.new ≡ vec_capacity out.old }
 {
@@ -125,9 +125,9 @@ fn put_more(
     requires work { (length left.old ≡ 256) × (length subs.old ≡ 256) }
     requires room { vec_len out.old + (1 + length points.now * byte_count format.now)
         ≤ vec_capacity out.old }
-    ensures bytes { out.new.items ≡ out.old.items ++ (or_raw format.now (tile_of w points.now)
+    ensures bytes { out.new.items ≡ out.old.items ++ (or_shorter format.now (tile_of w points.now)
         (more_values format.now known (tile_of w points.now) back)).bytes }
-    ensures after { result ≡ (or_raw format.now (tile_of w points.now)
+    ensures after { result ≡ (or_shorter format.now (tile_of w points.now)
         (more_values format.now known (tile_of w points.now) back)).after }
     ensures room { vec_capacity out.new ≡ vec_capacity out.old }
 {

@@ -3,3 +3,4 @@ mod BitLemmas
 mod MaxLemmas
 mod PixelLemmas
 mod SoundLemmas
+mod OrderLemmas

@@ -1,8 +1,9 @@
 ghost use Rattle.std.specs.Prelude.{◌≡◌, ◌+◌, ◌^◌, ◌<◌, ◌≤◌, ◌++◌, length, vec_len, vec_capacity};
-ghost use Rattle.pixel_format.specs.Formats.{IsFormat, first_format, format_of, value_of, byte_count, pixel_bytes};
+ghost use Rattle.pixel_format.specs.Formats.{IsFormat, first_format, format_of, value_of, byte_count, pixel_bytes, pixel_value};
 
 use crate::channel::{Channel, all_fit};
 use crate::fault::FormatFault;
+use byteorder::{BigEndian, ByteOrder, LittleEndian};
 use gfx_base::Colour;
 use std::marker::Model;
 
@@ -124,6 +125,20 @@ impl Format {
         } else {
             put_all(&v.to_le_bytes()[..count], out);
         }
+    }
+
+    /// The value of the pixel with these bytes, of which there are as many as a pixel has.
+    pub fn get(&self, bytes: &[u8]) -> u32
+        requires { length bytes.now ≡ byte_count self.now }
+        ensures { result ≡ pixel_value self.now bytes.now }
+    {
+        let count = self.bytes();
+        let number = if self.big_endian {
+            BigEndian::read_uint(bytes, count)
+        } else {
+            LittleEndian::read_uint(bytes, count)
+        };
+        number as u32
     }
 }
 

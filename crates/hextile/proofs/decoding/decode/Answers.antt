@@ -7,12 +7,12 @@ use Rattle.hextile.proofs.decoding.decode.Goals as goal
 
 pub overflow_sub-result : goal.overflow_sub-result
 overflow_sub-result c =
-    let read = rw (c.in_ok-pixels.ensures, c.from.ensures, c.from-2.ensures) at c.in-Ok.ensures in
+    let read = rw (c.from.ensures, c.from-2.ensures) at c.in-Ok.ensures in
     rest_left c.args.format.now c.args.w c.args.h c.args.bytes.now (tiles_of c.args.w c.args.h c.read_tiles.new.values) c.in-Ok.rest.now read
 
 pub overflow_sub-result-in-Err : goal.overflow_sub-result-in-Err
 overflow_sub-result-in-Err c =
-    let read = rw (c.in_ok-pixels.ensures, c.from.ensures, c.from-2.ensures) at c.in-Err.ensures in
+    let read = rw (c.from.ensures, c.from-2.ensures) at c.in-Err.ensures in
     stop_left c.args.format.now c.args.w c.args.h c.args.bytes.now c.in-Err.fault.left read
 
 pub returns-in-Ok-empty-clause-values : goal.returns-in-Ok-empty-clause-values
@@ -21,7 +21,7 @@ returns-in-Ok-empty-clause-values c =
     let format = c.bytes-pixel_bytes.ensures.format in
     let tells : Tells f = record { format = format; value = λ v. c.bytes_tell_value.ensures.value f v format; bytes = λ bs. c.bytes_tell_value.ensures.bytes f bs format } in
     let are = are_bytes c.args.bytes.now (λ i. omega (arith, (c.type_inv.bytes i).fits)) in
-    let read = rw (c.in_ok-pixels.ensures, c.from.ensures, c.from-2.ensures) at c.in-Ok-empty.ensures in
+    let read = rw (c.from.ensures, c.from-2.ensures) at c.in-Ok-empty.ensures in
     let v = c.read_tiles.new.values in
     let all = rw (c.from.ensures, c.from-2.ensures) at c.in_ok-values.ensures.len in
     let len : c.in_ok-values.values.len ≡ length v = omega (arith, c.deref_mut.ensures.len) in
@@ -36,7 +36,7 @@ returns-in-Ok-clause-refused c =
     let format = c.bytes-pixel_bytes.ensures.format in
     let tells : Tells f = record { format = format; value = λ v. c.bytes_tell_value.ensures.value f v format; bytes = λ bs. c.bytes_tell_value.ensures.bytes f bs format } in
     let are = are_bytes c.args.bytes.now (λ i. omega (arith, (c.type_inv.bytes i).fits)) in
-    let read = rw (c.in_ok-pixels.ensures, c.from.ensures, c.from-2.ensures) at c.in-Ok.ensures in
+    let read = rw (c.from.ensures, c.from-2.ensures) at c.in-Ok.ensures in
     bad_rest f c.args.w c.args.h c.args.bytes.now (tiles_of c.args.w c.args.h c.read_tiles.new.values) c.in-Ok.rest.now tells are c.in-Ok.len_at_least read
 
 pub returns-in-Err-clause-refused : goal.returns-in-Err-clause-refused
@@ -45,5 +45,5 @@ returns-in-Err-clause-refused c =
     let format = c.bytes-pixel_bytes.ensures.format in
     let tells : Tells f = record { format = format; value = λ v. c.bytes_tell_value.ensures.value f v format; bytes = λ bs. c.bytes_tell_value.ensures.bytes f bs format } in
     let are = are_bytes c.args.bytes.now (λ i. omega (arith, (c.type_inv.bytes i).fits)) in
-    let read = rw (c.in_ok-pixels.ensures, c.from.ensures, c.from-2.ensures) at c.in-Err.ensures in
+    let read = rw (c.from.ensures, c.from-2.ensures) at c.in-Err.ensures in
     bad_stop f c.args.w c.args.h c.args.bytes.now c.in-Err.fault.left tells are read
