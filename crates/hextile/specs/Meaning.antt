@@ -59,8 +59,8 @@ AreListed f true coloured subs bytes =
 AreListed f false coloured subs bytes = (subs ≡ []) × (bytes ≡ [])
 
 -- the tile is painted: a background, a foreground, and subrectangles
-pub record IsPainted (f : Layout) (known : Known) (tile : TileValues) (bytes : List ℕ) (after : Known)
-    : Type 0 where
+pub record IsPainted (f : Layout) (known : Known) (tile : TileValues) (bytes : List ℕ)
+    (after : Known) : Type 0 where
   pub parts : Parts
   pub mask : ℕ
   pub is_mask : IsMask parts mask

@@ -137,7 +137,8 @@ read_tile f known width height bytes =
     else read_painted f known mask width height rest)
 
 -- the tiles from one with a number on, so many, after those that were read
-unfoldable pub read_tiles : Layout → ℕ → ℕ → Known → List TileValues → ℕ → List ℕ → Read (List TileValues)
+unfoldable pub read_tiles : Layout → ℕ → ℕ → Known → List TileValues → ℕ → List ℕ
+    → Read (List TileValues)
 read_tiles f w h known found zero bytes = Ok (found, bytes)
 read_tiles f w h known found (suc left) bytes =
     let width = tile_side w (length found % tiles_along w) in
