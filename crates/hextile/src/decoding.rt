@@ -1,6 +1,7 @@
 //! Hextile data, decoded.
 
-ghost use Rattle.std.specs.Prelude.{◌≡◌, ◌*◌, ◌≤◌, Ok, Err, replicate, length, IfOk, IfErr, MatchResult};
+ghost use Rattle.std.specs.Prelude.{◌≡◌, ℕ, ◌*◌, ◌≤◌, List, Ok, Err, replicate, length, IfOk, IfErr, MatchResult};
+ghost use Rattle.hextile.specs.declared.refused.DecodeRefused.{DecodeRefused};
 ghost use Rattle.hextile.specs.Tiles.{tiles_of};
 ghost use Rattle.hextile.specs.Meaning.{DecodesTo};
 ghost use Rattle.hextile.specs.Reading.{read_rectangle};
@@ -64,6 +65,8 @@ pub fn decode(
     format: &Format,
 ) -> Result<Vec<u32>, DecodeRefused>
     ensures values { IfOk result (λ values. DecodesTo format.now w h bytes.now values.items) }
+    ensures only { (meant : List ℕ) → DecodesTo format.now w h bytes.now meant
+        → MatchResult result (λ values. values.items ≡ meant) (λ e. e ≡ DecodeRefused.Memory) }
     ensures refused { IfErr result (IsRefused format.now w h bytes.now) }
 {
     bytes_tell_value();

@@ -3,6 +3,7 @@ use Rattle.std.proofs.lemmas.List.{take_at}
 use Rattle.hextile.specs.Tiles.{tiles_of}
 use Rattle.hextile.proofs.SoundLemmas.{Tells}
 use Rattle.hextile.proofs.RectangleLemmas.{are_bytes, decodes, bad_stop, bad_rest, stop_left, rest_left, empty_is}
+use Rattle.hextile.proofs.UniqueLemmas.{one_meaning}
 use Rattle.hextile.proofs.decoding.decode.Goals as goal
 
 pub overflow_sub-result : goal.overflow_sub-result
@@ -47,3 +48,16 @@ returns-in-Err-clause-refused c =
     let are = are_bytes c.args.bytes.now (λ i. omega (arith, (c.type_inv.bytes i).fits)) in
     let read = rw (c.from.ensures, c.from-2.ensures) at c.in-Err.ensures in
     bad_stop f c.args.w c.args.h c.args.bytes.now c.in-Err.fault.left tells are read
+
+pub returns-in-Ok-empty-clause-only : goal.returns-in-Ok-empty-clause-only
+returns-in-Ok-empty-clause-only c = λ meant means.
+    let f = c.args.format.now in
+    let format = c.bytes-pixel_bytes.ensures.format in
+    let tells : Tells f = record { format = format; value = λ v. c.bytes_tell_value.ensures.value f v format; bytes = λ bs. c.bytes_tell_value.ensures.bytes f bs format } in
+    one_meaning f c.args.w c.args.h c.args.bytes.now _ meant tells (returns-in-Ok-empty-clause-values c) means
+
+pub returns-in-Ok-clause-only : goal.returns-in-Ok-clause-only
+returns-in-Ok-clause-only c = λ meant means. absurd ((returns-in-Ok-clause-refused c).none meant means)
+
+pub returns-in-Err-clause-only : goal.returns-in-Err-clause-only
+returns-in-Err-clause-only c = λ meant means. absurd ((returns-in-Err-clause-refused c).none meant means)
