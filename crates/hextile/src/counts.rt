@@ -1,6 +1,7 @@
 //! How often values stand in a tile.
 
 ghost use Rattle.std.specs.Prelude.{◌≡◌, ◌==◌, ◌<◌, ◌≤◌, ◌&&◌, not, length, count_by, find};
+ghost use Rattle.std.specs.List.Sorted.{IsNonDecreasingBy};
 ghost use Rattle.hextile.specs.Encoding.{more_common, most_common};
 
 /// The first value that is another one.
@@ -36,20 +37,37 @@ pub fn more_common(points: &[u32], best: u32, x: u32) -> u32
     }
 }
 
+/// How many of the values, which rise, are this one.
+fn count_sorted(sorted: &[u32], value: u32) -> usize
+    requires rise { IsNonDecreasingBy (λ x. x) sorted.now }
+    ensures { result ≡ count_by (λ x. x == value) sorted.now }
+{
+    let end = sorted.partition_point(|x| *x <= value);
+    let start = sorted.partition_point(|x| *x < value);
+    end - start
+}
+
 /// The value that most points have; of those with as many points the one whose first point comes
-/// first.
+/// first. The points are sorted in `work`, so that none is counted in a search through all of them,
+/// and the same value isn't counted twice in a row.
 #[tactic(auto, using(crate::proofs::CountLemmas::steps))]
-pub fn most_common(points: &[u32]) -> u32
-    requires { 0 < length points.now }
+pub fn most_common(points: &[u32], work: &mut [u32]) -> u32
+    requires some { 0 < length points.now }
+    requires room { length points.now ≤ length work.old }
     ensures { result ≡ most_common points.now }
 {
+    let sorted = &mut work[..points.len()];
+    sorted.copy_from_slice(points);
+    sorted.sort_unstable();
     let mut best = points[0];
-    let mut most = count(points, best);
+    let mut most = count_sorted(sorted, best);
+    let mut last = best;
     for x in points {
-        if *x != best {
-            let here = count(points, *x);
+        if *x != last {
+            last = *x;
+            let here = count_sorted(sorted, last);
             if most < here {
-                best = *x;
+                best = last;
                 most = here;
             }
         }

@@ -179,7 +179,7 @@ pub fn put_tile(
             put_two(format, points, w, known, back, fore, left, subs, out)
         }
         Some(_) => {
-            let back = most_common(points);
+            let back = most_common(points, left);
             put_more(format, points, w, known, back, left, subs, out)
         }
     }
