@@ -37,11 +37,7 @@ said_again : (c : Call) → made_of (said c) ≡ c
 said_again call.Exec = refl
 said_again c = refl
 
-one_parent : (parent : ℕ) → (1 ≤ parent) × (parent ≤ 1) → 1 ≡ parent
-one_parent parent is = let low : 1 ≤ parent = is.0 in let high : parent ≤ 1 = is.1 in omega arith
-
 said_made : (w : Word) (vs : Values (fields_of (row_of w))) → AreIn (fields_of (row_of w)) vs → said (made_of (said_by w vs)) ≡ said_by w vs
-said_made word.Create vs are = ap (λ (parent : ℕ). said_by word.Create (parent, vs.1)) (one_parent vs.0 are.0)
 said_made word.Exec vs are = refl
 said_made w vs are = refl
 

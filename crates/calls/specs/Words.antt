@@ -13,9 +13,9 @@ use Rattle.calls.specs.declared.line.Line.TheVariants.{Task}
 
 -- ---- kinds of fields
 
--- a new window's parent; today it is the desktop, window 1
-abbrev pub desktop_handle : Field
-desktop_handle = Natural 1 1
+-- a window's handle
+abbrev pub handle : Field
+handle = Natural 0 4294967295
 
 abbrev pub side : Field
 side = Natural 0 65535
@@ -40,9 +40,24 @@ make_of (row name fields make) = make
 
 abbrev pub row_of : Word → Row
 row_of word.Create =
-    row (codes "create") (desktop_handle ∷ Number ∷ Number ∷ side ∷ side ∷ byte ∷ [])
-    (λ parent. call.Create)
+    row (codes "create") (handle ∷ Number ∷ Number ∷ side ∷ side ∷ byte ∷ []) call.Create
+row_of word.Delete = row (codes "delete") (handle ∷ []) call.Delete
+row_of word.MoveTo = row (codes "move_to") (handle ∷ Number ∷ Number ∷ []) call.MoveTo
+row_of word.MoveBy = row (codes "move_by") (handle ∷ Number ∷ Number ∷ []) call.MoveBy
+row_of word.Resize = row (codes "resize") (handle ∷ side ∷ side ∷ []) call.Resize
+row_of word.Show = row (codes "show") (handle ∷ []) call.Show
+row_of word.Hide = row (codes "hide") (handle ∷ []) call.Hide
+row_of word.ToTop = row (codes "to_top") (handle ∷ []) call.ToTop
+row_of word.ToBottom = row (codes "to_bottom") (handle ∷ []) call.ToBottom
+row_of word.SetClass = row (codes "set_class") (handle ∷ byte ∷ []) call.SetClass
+row_of word.Invalidate = row (codes "invalidate") (handle ∷ []) call.Invalidate
+row_of word.InvalidateRect =
+    row (codes "invalidate_rect") (handle ∷ Number ∷ Number ∷ Number ∷ Number ∷ [])
+    call.InvalidateRect
+row_of word.InvalidateArea =
+    row (codes "invalidate_area") (Number ∷ Number ∷ Number ∷ Number ∷ []) call.InvalidateArea
 row_of word.Exec = row (codes "exec") [] call.Exec
+row_of word.Exec1 = row (codes "exec1") [] call.Exec1
 row_of word.Scan = row (codes "scan") [] call.Scan
 
 -- sealed, so that a proof about a call's fields doesn't look at the letters of its name
@@ -50,7 +65,10 @@ unfoldable pub name_of_word : Word → List ℕ
 name_of_word w = name_of (row_of w)
 
 abbrev pub all_words : List Word
-all_words = word.Create ∷ word.Exec ∷ word.Scan ∷ []
+all_words =
+    word.Create ∷ word.Delete ∷ word.MoveTo ∷ word.MoveBy ∷ word.Resize ∷ word.Show ∷ word.Hide
+    ∷ word.ToTop ∷ word.ToBottom ∷ word.SetClass ∷ word.Invalidate ∷ word.InvalidateRect
+    ∷ word.InvalidateArea ∷ word.Exec ∷ word.Exec1 ∷ word.Scan ∷ []
 
 -- ---- the text of a call line
 
@@ -63,8 +81,21 @@ say w = taking (fields_of (row_of w)) (said_by w)
 
 -- each call is a word with values
 abbrev pub said : Call → Said
-said (call.Create x y w h class) = say word.Create 1 x y w h class
+said (call.Create parent x y w h class) = say word.Create parent x y w h class
+said (call.Delete h) = say word.Delete h
+said (call.MoveTo h x y) = say word.MoveTo h x y
+said (call.MoveBy h dx dy) = say word.MoveBy h dx dy
+said (call.Resize h width height) = say word.Resize h width height
+said (call.Show h) = say word.Show h
+said (call.Hide h) = say word.Hide h
+said (call.ToTop h) = say word.ToTop h
+said (call.ToBottom h) = say word.ToBottom h
+said (call.SetClass h class) = say word.SetClass h class
+said (call.Invalidate h) = say word.Invalidate h
+said (call.InvalidateRect h x0 y0 x1 y1) = say word.InvalidateRect h x0 y0 x1 y1
+said (call.InvalidateArea x0 y0 x1 y1) = say word.InvalidateArea x0 y0 x1 y1
 said call.Exec = say word.Exec
+said call.Exec1 = say word.Exec1
 said call.Scan = say word.Scan
 
 abbrev pub words_of_said : Said → List (List ℕ)

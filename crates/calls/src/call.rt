@@ -1,20 +1,53 @@
 ghost use Rattle.std.specs.Prelude.{◌≡◌};
 ghost use Rattle.calls.specs.Actors.{fits};
 
-/// A call of the core.
+/// A call of the core. A window is named by its handle. Places, sides and differences are in
+/// points; a window's place is told from its parent's upper left corner.
 #[derive(Clone, Copy, Debug, PartialEq, Eq)]
 pub enum Call {
-    /// Makes a window of the desktop, on top of the others: its place in the desktop and its size,
-    /// in points, and the number of its class.
+    /// Makes a window in its parent, on top of the parent's children, of the class of this number.
     Create {
+        parent: u32,
         x: i16,
         y: i16,
         w: u16,
         h: u16,
         class: u8,
     },
+    /// Deletes a window with its descendants.
+    Delete { h: u32 },
+    /// Moves a window to a place.
+    MoveTo { h: u32, x: i16, y: i16 },
+    /// Moves a window by differences. A sum stops at −32,768 and at 32,767.
+    MoveBy { h: u32, dx: i16, dy: i16 },
+    /// Gives a window other sides.
+    Resize { h: u32, width: u16, height: u16 },
+    /// Shows a window that was hidden.
+    Show { h: u32 },
+    /// Hides a window, and its descendants with it.
+    Hide { h: u32 },
+    /// Puts a window on top of its siblings, with its descendants.
+    ToTop { h: u32 },
+    /// Puts a window below its siblings, with its descendants.
+    ToBottom { h: u32 },
+    /// Gives a window the class of this number.
+    SetClass { h: u32, class: u8 },
+    /// Makes all of a window invalid.
+    Invalidate { h: u32 },
+    /// Makes a rectangle of a window invalid, told from the window's upper left corner.
+    InvalidateRect {
+        h: u32,
+        x0: i16,
+        y0: i16,
+        x1: i16,
+        y1: i16,
+    },
+    /// Makes an area of the screen invalid in every window.
+    InvalidateArea { x0: i16, y0: i16, x1: i16, y1: i16 },
     /// Paints until no window is invalid.
     Exec,
+    /// Paints the first invalid window, if there is one.
+    Exec1,
     /// Shows the picture that is on the screen.
     Scan,
 }
@@ -27,9 +60,8 @@ impl Call {
     pub fn fits(&self, actor: u16) -> bool
         ensures { result ≡ fits self.now actor }
     {
-        match self {
-            Call::Create { .. } | Call::Exec | Call::Scan => 1 <= actor && actor <= LAST_TASK,
-        }
+        let _ = self;
+        1 <= actor && actor <= LAST_TASK
     }
 
     /// An equal call. Takes no memory.

@@ -1,12 +1,18 @@
 /// Why a call was refused.
 #[derive(Clone, Copy, Debug, PartialEq, Eq)]
 pub enum Refusal {
+    /// No window that lives has this handle.
+    NoWindow(u32),
+    /// The desktop stays as it is.
+    Desktop,
     /// A side of the window is 0 or over 4,096 points.
     BadSize,
-    /// There is no class of this number.
-    NoClass(u8),
     /// 256 windows live already, the desktop among them.
     TooManyWindows,
+    /// The parent lies on the deepest of the eight levels.
+    TooDeep,
+    /// There is no class of this number.
+    NoClass(u8),
 }
 
 /// What a call is answered.

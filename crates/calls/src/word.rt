@@ -5,12 +5,42 @@ ghost use Rattle.calls.specs.Words.{name_of_word, word_of};
 #[derive(Clone, Copy, Debug, PartialEq, Eq)]
 pub enum Word {
     Create,
+    Delete,
+    MoveTo,
+    MoveBy,
+    Resize,
+    Show,
+    Hide,
+    ToTop,
+    ToBottom,
+    SetClass,
+    Invalidate,
+    InvalidateRect,
+    InvalidateArea,
     Exec,
+    Exec1,
     Scan,
 }
 
 /// The words that name calls.
-const WORDS: [Word; 3] = [Word::Create, Word::Exec, Word::Scan];
+const WORDS: [Word; 16] = [
+    Word::Create,
+    Word::Delete,
+    Word::MoveTo,
+    Word::MoveBy,
+    Word::Resize,
+    Word::Show,
+    Word::Hide,
+    Word::ToTop,
+    Word::ToBottom,
+    Word::SetClass,
+    Word::Invalidate,
+    Word::InvalidateRect,
+    Word::InvalidateArea,
+    Word::Exec,
+    Word::Exec1,
+    Word::Scan,
+];
 
 impl Word {
     /// The word as it is written.
@@ -20,7 +50,20 @@ impl Word {
     {
         match self {
             Word::Create => b"create",
+            Word::Delete => b"delete",
+            Word::MoveTo => b"move_to",
+            Word::MoveBy => b"move_by",
+            Word::Resize => b"resize",
+            Word::Show => b"show",
+            Word::Hide => b"hide",
+            Word::ToTop => b"to_top",
+            Word::ToBottom => b"to_bottom",
+            Word::SetClass => b"set_class",
+            Word::Invalidate => b"invalidate",
+            Word::InvalidateRect => b"invalidate_rect",
+            Word::InvalidateArea => b"invalidate_area",
             Word::Exec => b"exec",
+            Word::Exec1 => b"exec1",
             Word::Scan => b"scan",
         }
     }

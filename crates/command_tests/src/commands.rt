@@ -89,6 +89,56 @@ fn scripts_are_played_and_painted(rt: HostRuntime) -> Result<(), Fail> {
             "fault 1 header\n",
         ),
         ("play F", "", 3, "fault 1 end\n"),
+        // A window outside its parent has no clip, and is never invalid.
+        (
+            "play F",
+            "mtgui 1\nscreen 8 4\nbuffers 1\ndesktop 000000\nclass 1 0000FF\nend\n\
+            1 create 1 -1 -1 3 2 1\n1 create 2 5 0 2 2 1\n1 exec\n1 scan\n",
+            0,
+            "ok 2\nok 3\nok 2\nframe 8 4\n0000FF*2 000000*6\n000000*8\n=\n=\n\
+            done calls 4 refused 0 shown 0 windows 3\n",
+        ),
+        // A move invalidates two windows, and a show of a shown window none.
+        (
+            "play F",
+            "mtgui 1\nscreen 4 1\nbuffers 1\ndesktop 000000\nclass 1 0000FF\nend\n\
+            1 create 1 0 0 2 1 1\n1 exec\n1 move_by 2 2 0\n1 exec\n1 show 2\n1 exec\n1 scan\n",
+            0,
+            "ok 2\nok 2\nok\nok 2\nok\nok 0\nframe 4 1\n000000*2 0000FF*2\n\
+            done calls 7 refused 0 shown 0 windows 2\n",
+        ),
+        // The deepest level, and what calls are refused for.
+        (
+            "play F",
+            "mtgui 1\nscreen 4 1\nbuffers 1\ndesktop 000000\nclass 1 0000FF\nend\n\
+            1 create 1 0 0 4 1 1\n1 create 2 0 0 4 1 1\n1 create 3 0 0 4 1 1\n\
+            1 create 4 0 0 4 1 1\n1 create 5 0 0 4 1 1\n1 create 6 0 0 4 1 1\n\
+            1 create 7 0 0 4 1 1\n1 create 8 0 0 4 1 1\n1 create 8 0 0 0 1 9\n\
+            1 create 9 0 0 1 1 1\n1 create 7 0 0 0 1 9\n1 create 7 0 0 1 1 9\n1 delete 9\n\
+            1 delete 1\n1 move_to 1 0 0\n1 resize 2 0 1\n1 resize 9 0 1\n1 set_class 2 2\n\
+            1 set_class 1 2\n1 show 1\n1 to_top 1\n1 to_bottom 9\n1 invalidate 9\n\
+            1 invalidate_rect 9 0 0 1 1\n1 delete 2\n1 show 8\n",
+            0,
+            "ok 2\nok 3\nok 4\nok 5\nok 6\nok 7\nok 8\nrefused TooDeep\nrefused TooDeep\n\
+            refused NoWindow 9\nrefused BadSize\nrefused NoClass 9\nrefused NoWindow 9\n\
+            refused Desktop\nrefused Desktop\nrefused BadSize\nrefused NoWindow 9\n\
+            refused NoClass 2\nrefused Desktop\nrefused Desktop\nrefused Desktop\n\
+            refused NoWindow 9\nrefused NoWindow 9\nrefused NoWindow 9\nok\n\
+            refused NoWindow 8\ndone calls 26 refused 18 shown 0 windows 1\n",
+        ),
+        // Jobs one by one, parts of windows, and areas; inverted ones change nothing.
+        (
+            "play F",
+            "mtgui 1\nscreen 4 1\nbuffers 1\ndesktop 000000\nclass 1 0000FF\nend\n\
+            class 2 00FF00\nend\n1 create 1 0 0 2 1 1\n1 create 2 1 0 2 1 2\n1 exec\n1 exec1\n\
+            1 invalidate_rect 2 1 0 0 0\n1 invalidate_area 3 0 2 0\n1 exec1\n\
+            1 invalidate_rect 3 0 0 9 9\n1 exec1\n1 exec1\n1 hide 2\n1 exec1\n1 scan\n\
+            1 show 2\n1 to_bottom 3\n1 invalidate 1\n1 exec\n1 set_class 3 1\n1 exec\n1 scan\n",
+            0,
+            "ok 2\nok 3\nok 3\nok 0\nok\nok\nok 0\nok\nok 1\nok 0\nok\nok 1\nframe 4 1\n\
+            000000*4\nok\nok\nok\nok 3\nok\nok 3\nframe 4 1\n0000FF*2 000000*2\n\
+            done calls 20 refused 0 shown 0 windows 3\n",
+        ),
         (
             "paint F",
             FIRST,

@@ -10,7 +10,14 @@ const HEADER: &str = "mtgui 1\nscreen 8 6\nbuffers 1\ndesktop 000001\n\
     class 1 0000FF\nend\nclass 2 00FF00\nend\nclass 3 FF0000\nend\n";
 
 fn create(x: i16, y: i16, w: u16, h: u16, class: u8) -> Call {
-    Call::Create { x, y, w, h, class }
+    Call::Create {
+        parent: 1,
+        x,
+        y,
+        w,
+        h,
+        class,
+    }
 }
 
 /// Whether the shown picture is the painter's.

@@ -1,12 +1,11 @@
 -- What calls come to: one step each, counted.
-use Rattle.std.proofs.Common.{◌≡◌, ℕ, ℤ, ◌+◌, ◌<◌, ◌≤◌, Bool, true, false, cond, List, [], ◌∷◌, ◌++◌, length, Option, Some, None, replicate, ◌*◌, refl, sym, ap, ◌∙◌, arith}
-use Rattle.std.specs.Prelude.{◌==◌, ◌||◌, nat_lt, nat_le}
+use Rattle.std.proofs.Common.{◌≡◌, ℕ, ℤ, ◌+◌, ◌≤◌, Bool, true, false, cond, List, [], ◌∷◌, length, Option, Some, None, Result, Ok, Err, subst, replicate, ◌*◌, refl, sym, ap, ◌∙◌, arith}
 use Rattle.std.specs.List.{AllByRecursion}
-use Rattle.std.proofs.lemmas.Bool.{or_parts}
 use Rattle.std.proofs.lemmas.Bool.Decides.{nat_tests}
+use Rattle.std.proofs.lemmas.Int.{ints}
 use Rattle.std.proofs.lemmas.List.{length-replicate, get_or-replicate}
 use Rattle.std.proofs.lemmas.List.FromFn.{fill_by_all}
-use Rattle.gfx_base.specs.declared.rect.Rect.{Rect}
+use Rattle.gfx_base.specs.Rects.{is_empty}
 use Rattle.frame.specs.Pictures.{Picture, picture_of}
 use Rattle.paint_ops.specs.declared.op.Op.{Op}
 use Rattle.paint_ops.specs.declared.op.Op.TheVariants as op
@@ -15,71 +14,104 @@ use Rattle.paint_ops.specs.Soundness.{IsOperation, IsClass, IsSound}
 use Rattle.scene.specs.declared.win.Win.{Win}
 use Rattle.calls.specs.declared.config.Config.{Config}
 use Rattle.calls.specs.declared.call.Call.{Call}
-use Rattle.calls.specs.declared.call.Call.TheVariants.{Create}
 use Rattle.calls.specs.declared.reply.Reply.{Reply}
-use Rattle.calls.specs.declared.reply.Reply.TheVariants.{Handle, Refused}
+use Rattle.calls.specs.declared.reply.Reply.TheVariants.{Done, Handle, Jobs, Refused}
 use Rattle.calls.specs.declared.reply.Refusal.{Refusal}
-use Rattle.gui_core.specs.Setups.{classes_with_desktop, assets_with_desktop, setup_for, screen_of}
-use Rattle.gui_core.specs.Windows.{new_child}
-use Rattle.scene.specs.Stacks.{is_bad_size}
-use Rattle.scene.specs.Families.{desktop_with}
-use Rattle.gui_core.specs.States.{State, objections, refusal_of, unless_refused, after_create, effect, step, is_refused}
-use Rattle.gui_core.specs.Machines.{Machine, IsConfig, IsKept, Takes, Answers, counted, starting}
+use Rattle.gui_core.specs.Setups.{Setup, classes_with_desktop, assets_with_desktop, setup_for, screen_of}
+use Rattle.scene.specs.Looks.{screen_with}
+use Rattle.scene.specs.Stacks.{has_ancestors, IsShallow}
+use Rattle.win_tree.specs.Trees.{Scene}
+use Rattle.gui_core.specs.Scenes.{IsScene}
+use Rattle.gui_core.specs.Windows.{after_change}
+use Rattle.gui_core.specs.Refusals.{Performs, Creates, answered}
+use Rattle.gui_core.proofs.KeptLemmas.{kept-with, kept-windows}
+use Rattle.gui_core.proofs.SceneLemmas.{scene_after, scene_created}
+use Rattle.gui_core.proofs.EffectLemmas.{may_be_made, is_new}
+use Rattle.calls.specs.declared.call.Call.TheVariants.{Create}
+use Rattle.scene.specs.Families.{new_window, desktop_with, on_top_of}
+use Rattle.gui_core.specs.States.{State, Step, opening, objections, refusal_of, unless_refused, with_windows, effect, step_of_call, step, is_refused}
+use Rattle.gui_core.specs.Machines.{Machine, IsConfig, IsKept, Takes, Answers, starting}
 
--- ---- create
+-- ---- one call
 
-pub refused_takes : (m : Machine) (call : Call) (refusal : Refusal) → refusal_of (objections m.setup m.state call) ≡ Some refusal → Takes m call m (Refused refusal)
+pub refused_takes : (m : Machine) (call : Call) (refusal : Refusal) → refusal_of (objections (length m.setup.assets.classes) m.state.windows call) ≡ Some refusal → Takes m call m (Refused refusal)
 refused_takes m call refusal e = record { rest = refl; step = sym (ap (λ o. unless_refused o m.state (effect m.setup m.state call)) e) }
 
-not_refused : (b : Bool) (refusal : Refusal) (rest : Option Refusal) → cond b (Some refusal) rest ≡ None → (b ≡ false) × (rest ≡ None)
-not_refused true refusal rest e = absurd cc
-not_refused false refusal rest e = (refl, e)
+pub done_takes : (m new : Machine) (call : Call) (reply : Reply) (s : State) → refusal_of (objections (length m.setup.assets.classes) m.state.windows call) ≡ None → new ≡ record m { state = s } → ◌≡◌ {A = Step} (record { state = s; reply = reply }) (effect m.setup m.state call) → Takes m call new reply
+done_takes m new call reply s fine is done = record {
+  rest = is ∙ ap (λ (t : State). record m { state = t }) (sym (ap (λ (k : Machine). k.state) is));
+  step =
+      ap (λ (k : Machine). record { state = k.state; reply = reply }) is
+      ∙ done
+      ∙ sym (ap (λ o. unless_refused o m.state (effect m.setup m.state call)) fine);
+}
 
--- what is known of a window that isn't refused
-pub record MayBeMade (m : Machine) (w h class : ℕ) : Type 0 where
-  pub room : length m.state.windows < 256
-  pub known : class < length m.setup.assets.classes
-  pub width : w ≤ 4096
-  pub height : h ≤ 4096
-
-pub may_be_made : (m : Machine) (x y : ℤ) (w h class : ℕ) → refusal_of (objections m.setup m.state (Create x y w h class)) ≡ None → MayBeMade m w h class
-may_be_made m x y w h class e =
-    let size = not_refused (is_bad_size w h) _ _ e in
-    let known = not_refused (nat_le (length m.setup.assets.classes) class) _ _ size.1 in
-    let room = not_refused (nat_le 256 (length m.state.windows)) _ _ known.1 in
-    let sides = or_parts (w == 0 || h == 0) (nat_lt 4096 w || nat_lt 4096 h) size.0 in
-    let large = or_parts (nat_lt 4096 w) (nat_lt 4096 h) sides.1 in
+-- a call that was counted, made, and counted once more where it was refused
+pub answered_by : (old counted taken new : Machine) (actor : ℕ) (call : Call) (reply : Reply) (n : ℕ) → counted ≡ record old { made = old.made + 1 } → Takes counted call taken reply → new ≡ record taken { refused = taken.refused + n } → n ≡ cond (is_refused reply) 1 0 → Answers old actor call new reply
+unfolding step
+answered_by old counted taken new actor call reply n once takes more count =
+    let rest = takes.rest in
     record {
-      room = let test = room.0 in grind (arith, nat_tests);
-      known = let test = known.0 in grind (arith, nat_tests);
-      width = let test = large.0 in grind (arith, nat_tests);
-      height = let test = large.1 in grind (arith, nat_tests);
+      setup = ap (λ (k : Machine). k.setup) more ∙ ap (λ (k : Machine). k.setup) rest ∙ ap (λ (k : Machine). k.setup) once;
+      step =
+          ap (λ (k : Machine). record { state = k.state; reply = reply }) more
+          ∙ takes.step
+          ∙ ap (λ (k : Machine). step_of_call k.setup k.state call) once;
+      made = ap (λ (k : Machine). k.made) more ∙ ap (λ (k : Machine). k.made) rest ∙ ap (λ (k : Machine). k.made) once;
+      refused = ap (λ (k : Machine). k.refused) more ∙ ap (λ (k : Machine). k.refused + n) rest ∙ ap (λ (k : Machine). k.refused + n) once ∙ ap (λ (k : ℕ). old.refused + k) count;
     }
 
-pub created_takes : (m new : Machine) (next : ℕ) (x y : ℤ) (w h class : ℕ) (window : Win) → refusal_of (objections m.setup m.state (Create x y w h class)) ≡ None → new ≡ record m { state = after_create m.setup m.state window }
-    → window ≡ new_child m.state.next x y w h class → next ≡ m.state.next → Takes m (Create x y w h class) new (Handle next)
-created_takes m new next x y w h class window fine is made number = record {
-  rest = is ∙ ap (λ (s : State). record m { state = s }) (sym (ap (λ (k : Machine). k.state) is));
-  step =
-      ap (λ (k : Machine). record { state = k.state; reply = Handle next }) is
-      ∙ ap (λ (v : Win). record { state = after_create m.setup m.state v; reply = Handle next }) made
-      ∙ ap (λ (n : ℕ). record { state = after_create m.setup m.state (new_child m.state.next x y w h class); reply = Handle n }) number
-      ∙ sym (ap (λ o. unless_refused o m.state (effect m.setup m.state (Create x y w h class))) fine);
-}
+pub no_refusal : (reply : Reply) → ((refusal : Refusal) → reply ≡ Refused refusal → ⊥) → ◌≡◌ {A = ℕ} 0 (cond (is_refused reply) 1 0)
+no_refusal Done other = refl
+no_refusal (Handle handle) other = refl
+no_refusal (Jobs count) other = refl
+no_refusal (Refused refusal) other = absurd (other refusal refl)
 
-pub placed : (next : ℕ) (x y left top : ℤ) (w h class : ℕ) → x ≡ left → y ≡ top → new_child next x y w h class ≡ new_child next left top w h class
-placed next x y left top w h class e f = rw (e, f) refl
+-- ---- what callers of the windows learn
 
--- ---- all calls
+-- the core with other windows
+abbrev pub with_scene : Machine → Scene → Machine
+with_scene m scene = record m { state = record m.state { windows = scene.windows; handles = scene.handles } }
 
-pub answered : (old taken new : Machine) (actor : ℕ) (call : Call) (reply : Reply) → Takes old call taken reply → new ≡ counted reply taken → Answers old actor call new reply
-unfolding step
-answered old taken new actor call reply takes is = record {
-  setup = ap (λ (k : Machine). k.setup) is ∙ ap (λ (k : Machine). k.setup) takes.rest;
-  step = ap (λ (k : Machine). record { state = k.state; reply = reply }) is ∙ takes.step;
-  made = ap (λ (k : Machine). k.made) is ∙ ap (λ (k : Machine). k.made + 1) takes.rest;
-  refused = ap (λ (k : Machine). k.refused) is ∙ ap (λ (k : Machine). k.refused + cond (is_refused reply) 1 0) takes.rest;
-}
+-- the core's windows
+abbrev pub scene_of : Machine → Scene
+scene_of m = record { windows = m.state.windows; handles = m.state.handles }
+
+-- the first reason against a call
+abbrev pub reason_of : Machine → Call → Option Refusal
+reason_of m call = refusal_of (objections (length m.setup.assets.classes) m.state.windows call)
+
+-- the windows with a new one
+abbrev pub made_windows : Machine → ℕ → ℤ → ℤ → ℕ → ℕ → ℕ → List Win
+made_windows m parent x y w h class =
+    let win : Win = new_window (m.state.handles + 1) parent x y w h class in
+    after_change (screen_of m.setup) (m.state.handles + 1) m.state.windows (on_top_of parent (win ∷ []) m.state.windows)
+
+pub performed : (m : Machine) (call : Call) (r : Result (Unit {0}) Refusal) (now : List Win) (new : Scene) → IsKept m → Performs r (reason_of m call) now (scene_of m) new → (reason_of m call ≡ None → IsScene m.setup now m.state.handles) → IsKept (with_scene m new)
+performed m call (Ok done) now new kept p scene =
+    subst (λ (s : Scene). IsKept (with_scene m s)) (sym p.1) (kept-windows m now kept (scene p.0))
+performed m call (Err refusal) now new kept p scene = subst (λ (s : Scene). IsKept (with_scene m s)) (sym p.1) kept
+
+pub done : (m : Machine) (call : Call) (now : List Win) (new : Scene) → reason_of m call ≡ None → new ≡ record (scene_of m) { windows = now } → ◌≡◌ {A = Step} (with_windows m.state now) (effect m.setup m.state call) → Takes m call (with_scene m new) Done
+done m call now new fine is does = done_takes m (with_scene m new) call Done (record m.state { windows = now }) fine (ap (with_scene m) is) does
+
+pub refused : (m : Machine) (call : Call) (refusal : Refusal) (new : Scene) → reason_of m call ≡ Some refusal → new ≡ scene_of m → Takes m call (with_scene m new) (Refused refusal)
+refused m call refusal new why is = subst (λ (s : Scene). Takes m call (with_scene m s) (Refused refusal)) (sym is) (refused_takes m call refusal why)
+
+pub answers : (m : Machine) (call : Call) (r : Result (Unit {0}) Refusal) (now : List Win) (new : Scene) → Performs r (reason_of m call) now (scene_of m) new → ◌≡◌ {A = Step} (with_windows m.state now) (effect m.setup m.state call) → Takes m call (with_scene m new) (answered r)
+answers m call (Ok d) now new p does = done m call now new p.0 p.1 does
+answers m call (Err refusal) now new p does = refused m call refusal new p.0 p.1
+
+-- the same for a new window
+pub created_kept : (m : Machine) (parent : ℕ) (x y : ℤ) (w h class : ℕ) (r : Result ℕ Refusal) (new : Scene) → IsKept m → m.state.handles ≤ m.made → Creates r (reason_of m (Create parent x y w h class)) (made_windows m parent x y w h class) (scene_of m) new → IsKept (with_scene m new)
+created_kept m parent x y w h class (Ok handle) new kept few p =
+    let made = may_be_made (length m.setup.assets.classes) m.state.windows parent x y w h class p.0 in
+    let is = is_new m.setup m.state.windows m.state.handles parent x y w h class kept.scene made in
+    subst (λ (s : Scene). IsKept (with_scene m s)) (sym p.2)
+    (kept-with m (made_windows m parent x y w h class) (m.state.handles + 1) m.state.shown kept
+    (scene_after m.setup (m.state.handles + 1) (m.state.handles + 1) m.state.windows _ (scene_created m.setup m.state.windows m.state.handles (new_window (m.state.handles + 1) parent x y w h class) made.over' kept.scene is refl made.known))
+    (omega arith) refl refl)
+created_kept m parent x y w h class (Err refusal) new kept few p = subst (λ (s : Scene). IsKept (with_scene m s)) (sym p.1) kept
 
 -- ---- opening
 
@@ -123,9 +155,37 @@ sound-with_desktop assets colour sound =
       classes = sound_classes assets colour (classes_with_desktop colour assets.classes) assets.classes sound.classes;
     }
 
+some_screen : (width height : ℕ) → 1 ≤ width → 1 ≤ height → is_empty (screen_with width height) ≡ false
+unfolding is_empty
+some_screen width height wide high = grind (arith, ints, nat_tests)
+
 one_handle : (b : Bool) → cond b 1 0 + 0 ≤ 1
 one_handle true = omega arith
 one_handle false = omega arith
+
+-- the desktop has no ancestor
+shallow_desktop : (d : Win) → d.parent ≡ 0 → d.handle ≡ 1 → IsShallow (d ∷ []) d
+unfolding has_ancestors
+shallow_desktop d root handle = rw (root, handle) refl
+
+pub scene_opening : (setup : Setup) → IsConfig setup.config → 1 ≤ length setup.assets.classes → IsScene setup (opening setup).windows 1
+scene_opening setup is desktop =
+    let config = setup.config in
+    let d : Win = desktop_with config.w config.h (screen_of setup) in
+    let wide = is.width in
+    let high = is.height in
+    record {
+      stack = record {
+        order = (refl, refl, record { x = refl; y = refl; width = omega arith; height = omega arith; shown = refl; class = refl; trans = refl }, tt);
+        single = λ handle. one_handle _;
+        few = omega arith;
+        levels = (shallow_desktop d refl refl, tt);
+        windows = (record { handle = omega arith; some_width = wide.0; width = omega arith; some_height = high.0; height = omega arith; invalid = some_screen config.w config.h wide.0 high.0 }, tt);
+      };
+      given = (omega arith, tt);
+      screen = refl;
+      classes = (omega arith, tt);
+    }
 
 pub kept-starting : (assets : Assets) (config : Config) → IsConfig config → IsSound assets → 1 ≤ length assets.classes → IsKept (starting assets config)
 kept-starting assets config is sound desktop =
@@ -136,11 +196,8 @@ kept-starting assets config is sound desktop =
       has_desktop = omega (arith, count, desktop);
       width = refl;
       height = refl;
-      few = omega arith;
-      next = omega arith;
-      old = (omega arith, tt);
-      single = λ handle. one_handle _;
-      paintable = (record { width = omega (arith, is.width.1); height = omega (arith, is.height.1); class = omega (arith, count, desktop) }, tt);
+      scene = scene_opening (setup_for assets config) is (omega (arith, count, desktop));
+      handles = omega arith;
       made = omega arith;
       refused = omega arith;
     }
@@ -150,7 +207,6 @@ black width height p is_width is_height is_black =
     let points = fill_by_all {X = ℕ} (λ (i : ℕ). 0) (replicate (height * width) 0) (height * width) 0 (length-replicate (height * width) 0) (λ k lt. get_or-replicate (height * width) k 0 0 lt) in
     rw (is_width, is_height, is_black, points) refl
 
-pub started : (given kept : Assets) (config : Config) (p : Picture) (pushed before : List Win) (w : Win) (screen : Rect) → kept ≡ assets_with_desktop config.desktop given → p ≡ picture_of config.w config.h (λ x y. 0) → pushed ≡ before ++ w ∷ [] → before ≡ []
-    → w ≡ desktop_with config.w config.h screen → screen ≡ screen_of (setup_for given config)
-    → ◌≡◌ {A = Machine} (record { setup = record { config = config; assets = kept }; state = record { windows = pushed; next = 2; shown = p }; made = 0; refused = 0 }) (starting given config)
-started given kept config p pushed before w screen assets picture e_pushed e_before e_w e_screen = rw (assets, picture, e_pushed, e_before, e_w, e_screen) refl
+pub started : (given kept : Assets) (config : Config) (p : Picture) (windows : Scene) → kept ≡ assets_with_desktop config.desktop given → p ≡ picture_of config.w config.h (λ x y. 0) → windows ≡ record { windows = desktop_with config.w config.h (screen_with config.w config.h) ∷ []; handles = 1 }
+    → ◌≡◌ {A = Machine} (record { setup = record { config = config; assets = kept }; state = record { windows = windows.windows; handles = windows.handles; shown = p }; made = 0; refused = 0 }) (starting given config)
+started given kept config p windows assets picture is = rw (assets, picture, is) refl

@@ -1,135 +1,52 @@
 -- The damage covers every change: outside it the picture is the painter's.
-use Rattle.std.proofs.Common.{◌≡◌, ℕ, pos, zero, suc, ◌+◌, ◌*◌, ◌/◌, ◌%◌, ◌+ℤ◌, ◌-ℤ◌, ◌<◌, ◌≤◌, Bool, true, false, ◌||◌, cond, eqb, List, [], ◌∷◌, ◌++◌, map, Option, Some, None, refl, sym, ap, subst, ◌∙◌, inl, inr, arith}
+use Rattle.std.proofs.Common.{◌≡◌, ◌≢◌, ℕ, ℤ, pos, zero, suc, ◌+◌, ◌+ℤ◌, ◌-ℤ◌, ◌<◌, true, false, cond, eqb, List, [], ◌∷◌, length, map, Option, Some, None, refl, sym, ap, subst, ◌∙◌, inl, inr, arith}
 use Rattle.std.specs.Prelude.{is_some, position}
-use Rattle.std.specs.Option.{option_map_or}
-use Rattle.std.specs.List.{list_any, range_with_len, AllByRecursion}
+use Rattle.std.specs.List.{list_any, AllByRecursion, AllZip}
 use Rattle.std.proofs.lemmas.Bool.{cases_Bool, or_parts, or_from, and_right, and_from, false≢true}
-use Rattle.std.proofs.lemmas.Bool.Decides.{nat_tests}
 use Rattle.std.proofs.lemmas.Int.{ints}
-use Rattle.std.proofs.lemmas.Nat.{div_below}
-use Rattle.std.proofs.Math.Nat.{mod-lt, mul-zero}
+use Rattle.std.proofs.lemmas.List.{length-map}
 use Rattle.gfx_base.specs.declared.point.Point.{Point}
 use Rattle.gfx_base.specs.declared.rect.Rect.{Rect}
 use Rattle.gfx_base.specs.Range.{is_within}
-use Rattle.gfx_base.specs.Rects.{has, point_at}
-use Rattle.gfx_base.proofs.CallerLemmas.{has-meet}
+use Rattle.gfx_base.specs.Rects.{has, is_empty, meet, point_at}
+use Rattle.gfx_base.proofs.CallerLemmas.{has-meet, cover-smallest}
 use Rattle.scene.specs.declared.win.Win.{Win}
-use Rattle.scene.specs.Places.{Place, place_of, place_at}
-use Rattle.scene.specs.Clips.{frame_of, clip_in}
+use Rattle.scene.specs.Places.{Place, window_of, place_at}
+use Rattle.scene.specs.Clips.{deepest_level, frame_of, clip_of, clip_in}
 use Rattle.scene.specs.Painting.{Looks, painted}
-use Rattle.scene.specs.Damage.{some_has, is_invalid_at, is_seen, in_patch_at, is_damaged, repainted}
-use Rattle.scene.specs.Changes.{AreasCover}
-use Rattle.scene.proofs.CallerLemmas.{all-push, bare-area, painted-same, AreasCover-adds, Adds-last}
+use Rattle.scene.specs.Damage.{some_has, is_invalid_at, is_seen, is_damaged, grown, invalidated}
+use Rattle.scene.specs.Changes.{DamageCovers, clips_have, ChangesAlone}
+use Rattle.scene.specs.Families.{new_window, desktop_with, on_top_of, moved_to, resized_to, with_shown, window_changed}
+use Rattle.scene.proofs.CallerLemmas.{bare, bare-area, AreasCover-areas, DamageCovers-alone, clips_have-found}
+use Rattle.win_tree.proofs.CallerLemmas.{IsNew}
 use Rattle.calls.specs.declared.call.Call.{Call}
-use Rattle.calls.specs.declared.call.Call.TheVariants.{Create, Exec, Scan}
+use Rattle.calls.specs.declared.call.Call.TheVariants.{Create, Delete, MoveTo, MoveBy, Resize, Show, Hide, ToTop, ToBottom, SetClass, Invalidate, InvalidateRect, InvalidateArea, Exec, Exec1, Scan}
 use Rattle.calls.specs.declared.entry.Entry.{Entry}
 use Rattle.calls.specs.declared.entry.Entry.TheVariants as entry
 use Rattle.calls.specs.declared.reply.Refusal.{Refusal}
-use Rattle.frame.specs.Pictures.{Picture, picture_of, colour_at}
-use Rattle.frame.proofs.CallerLemmas.{colour_at-picture_of, colour_at-changed, changed-picture_of}
+use Rattle.frame.specs.Pictures.{Picture, colour_at}
+use Rattle.frame.proofs.CallerLemmas.{colour_at-picture_of}
+use Rattle.gui_core.specs.declared.change.Change.{Change}
+use Rattle.gui_core.specs.declared.change.Change.TheVariants as change
 use Rattle.gui_core.specs.Setups.{Setup, screen_of, looks_of, painter}
-use Rattle.gui_core.specs.Windows.{new_child, with_window}
-use Rattle.scene.specs.Families.{desktop_with}
-use Rattle.invalidate.specs.Invalidation.{is_invalid}
-use Rattle.gui_core.specs.Jobs.{windows_after_job, picture_after_job, jobs_of}
-use Rattle.gui_core.specs.States.{State, Step, latest, opening, objections, refusal_of, unless_refused, after_create, after_job, after_jobs, effect, step, state_after}
-use Rattle.gui_core.specs.Machines.{IsOld}
+use Rattle.gui_core.specs.Windows.{moved_by, with_class, after_change, with_invalid_window, with_invalid_rect, with_invalid_area}
+use Rattle.gui_core.specs.Changes.{list_after}
+use Rattle.invalidate.specs.Invalidation.{is_invalid, on_screen}
+use Rattle.gui_core.specs.Jobs.{jobs_of}
+use Rattle.gui_core.specs.States.{State, Step, latest, opening, objections, bad_size, no_class, refusal_of, unless_refused, changed, created, after_job, after_jobs, rect_with, effect, step, state_after}
 use Rattle.gui_core.specs.Promises.{IsRightOutsideDamage, NoneInvalid}
-use Rattle.gui_core.proofs.JobLemmas.{none_invalid, no_jobs, damage-job, windows-no_job}
-use Rattle.gui_core.proofs.KeptLemmas.{bare-job, all-same, ignores_old, older, jobs-step}
+use Rattle.gui_core.proofs.JobLemmas.{none_invalid, no_jobs}
+use Rattle.gui_core.proofs.IgnoreLemmas.{bare-job}
+use Rattle.gui_core.proofs.KeptLemmas.{jobs-step}
+use Rattle.gui_core.proofs.SceneLemmas.{found_handle}
+use Rattle.gui_core.proofs.EffectLemmas.{MayChange, may_change, MayBeMade, may_be_made, few_windows}
+use Rattle.gui_core.proofs.ShapeLemmas.{has_ancestors-map}
+use Rattle.gui_core.proofs.BareLemmas.{bare_after_change, bare_window, bare_rect}
+use Rattle.gui_core.proofs.BoneLemmas.{stack_alone, bones, keeps_bones, bones_window, live_bones}
+use Rattle.gui_core.proofs.CoverLemmas.{desk, IsShaped, shaped_same, Leads, change_covers, leads_raised, leads_lowered, leads_without, leads_created, leads_changed}
+use Rattle.gui_core.proofs.PictureLemmas.{picture_of-same, IsPictured, pictured_some, job_covers}
 
--- ---- pictures
-
-same_list : (a n : ℕ) (f g : ℕ → ℕ) → ((i : ℕ) → a ≤ i → i < a + n → f i ≡ g i) → map f (range_with_len a n) ≡ map g (range_with_len a n)
-same_list a zero f g same = refl
-same_list a (suc n) f g same =
-    ap (λ (c : ℕ). c ∷ map f (range_with_len (a + 1) n)) (same a (omega arith) (omega arith))
-    ∙ ap (λ (cs : List ℕ). g a ∷ cs) (same_list (a + 1) n f g (λ i low high. same i (omega arith) (omega arith)))
-
-abbrev picture_with : ℕ → ℕ → List ℕ → Picture
-picture_with w h points = record { width = w; height = h; points = points }
-
-wide_of : (w h i : ℕ) → i < h * w → 0 < w
-wide_of zero h i less = let none : h * 0 ≡ 0 = mul-zero h in absurd (omega arith)
-wide_of (suc w) h i less = omega arith
-
-pub picture_of-same : (w h : ℕ) (f g : ℕ → ℕ → ℕ) → ((x y : ℕ) → x < w → y < h → f x y ≡ g x y) → picture_of w h f ≡ picture_of w h g
-picture_of-same w h f g same =
-    ap (picture_with w h) (same_list 0 (h * w) (λ i. f (i % w) (i / w)) (λ i. g (i % w) (i / w)) (λ i low high.
-    let inside : i < h * w = omega arith in
-    let wide : 0 < w = wide_of w h i inside in
-    same (i % w) (i / w) (mod-lt i wide) (div_below i w h wide inside)))
-
--- ---- a job
-
--- a picture of these sides, with a colour at each point
-pub record IsPictured (w h : ℕ) (p : Picture) : Type 0 where
-  pub colours : ℕ → ℕ → ℕ
-  pub is : p ≡ picture_of w h colours
-
-pictured_repainted : (w h : ℕ) (looks : Looks) (ws : List Win) (which : ℕ) (p : Picture) → IsPictured w h p → IsPictured w h (repainted looks ws which p)
-pictured_repainted w h looks ws which p is =
-    let colours : ℕ → ℕ → ℕ = λ x y. cond (in_patch_at looks ws which (point_at (pos x) (pos y))) (painted looks ws (point_at (pos x) (pos y))) (colour_at p x y) in
-    record {
-      colours = colours;
-      is =
-          changed-picture_of p (λ x y. in_patch_at looks ws which (point_at (pos x) (pos y))) (λ x y. painted looks ws (point_at (pos x) (pos y)))
-          ∙ ap (λ (n : ℕ). picture_of n p.height colours) (ap (λ (q : Picture). q.width) is.is)
-          ∙ ap (λ (n : ℕ). picture_of w n colours) (ap (λ (q : Picture). q.height) is.is);
-    }
-
-pictured_some : (w h : ℕ) (looks : Looks) (ws : List Win) (o : Option ℕ) (p : Picture) → IsPictured w h p → IsPictured w h (option_map_or (λ which. repainted looks ws which p) o p)
-pictured_some w h looks ws None p is = is
-pictured_some w h looks ws (Some which) p is = pictured_repainted w h looks ws which p is
-
--- the colour of a point after the job of the first invalid window
-colour_at-job : (setup : Setup) (ws : List Win) (which : ℕ) (p : Picture) (x y : ℕ) → position is_invalid ws ≡ Some which → x < p.width → y < p.height
-    → colour_at (picture_after_job setup ws p) x y ≡ cond (in_patch_at (looks_of setup ws) ws which (point_at (pos x) (pos y))) (painted (looks_of setup ws) ws (point_at (pos x) (pos y))) (colour_at p x y)
-colour_at-job setup ws which p x y first x_in y_in =
-    let looks = looks_of setup ws in
-    ap (λ (o : Option ℕ). colour_at (option_map_or (λ k. repainted looks ws k p) o p) x y) first
-    ∙ colour_at-changed p (λ u v. in_patch_at looks ws which (point_at (pos u) (pos v))) (λ u v. painted looks ws (point_at (pos u) (pos v))) x y x_in y_in
-
-painted-job : (setup : Setup) (ws : List Win) (p : Point) → painted (looks_of setup (windows_after_job ws)) (windows_after_job ws) p ≡ painted (looks_of setup ws) ws p
-painted-job setup ws p = painted-same setup.assets (screen_of setup) ws (windows_after_job ws) p (bare-job ws)
-
-job_covers : (setup : Setup) (s : State) (o : Option ℕ) → position is_invalid s.windows ≡ o → IsPictured setup.config.w setup.config.h s.shown → IsRightOutsideDamage setup s → IsRightOutsideDamage setup (after_job setup s)
-job_covers setup s None none is covers x y x_in y_in outside =
-    let p : Point = point_at (pos x) (pos y) in
-    let same = windows-no_job s.windows none in
-    ap (λ (o : Option ℕ). colour_at (option_map_or (λ k. repainted (looks_of setup s.windows) s.windows k s.shown) o s.shown) x y) none
-    ∙ covers x y x_in y_in (ap (λ (vs : List Win). is_damaged (looks_of setup vs) vs p) (sym same) ∙ outside)
-    ∙ sym (painted-job setup s.windows p)
-job_covers setup s (Some which) first is covers x y x_in y_in outside =
-    let p : Point = point_at (pos x) (pos y) in
-    let wide : x < s.shown.width = rw (ap (λ (q : Picture). q.width) is.is) x_in in
-    let high : y < s.shown.height = rw (ap (λ (q : Picture). q.height) is.is) y_in in
-    colour_at-job setup s.windows which s.shown x y first wide high
-    ∙ elim (cases_Bool (in_patch_at (looks_of setup s.windows) s.windows which p)) [
-      | inl here ↦ rw here (sym (painted-job setup s.windows p))
-      | inr there ↦
-          rw there
-          (covers x y x_in y_in (damage-job setup s.windows which p first ∙ or_from (in_patch_at (looks_of setup s.windows) s.windows which p) (is_damaged (looks_of setup (windows_after_job s.windows)) (windows_after_job s.windows) p) there outside)
-          ∙ sym (painted-job setup s.windows p))
-    ]
-
--- ---- a window more
-
--- no window has a handle that wasn't given out
-unknown_handle : (handle : ℕ) (ws : List Win) → AllByRecursion (IsOld handle) ws → place_at ws handle ≡ None
-unknown_handle handle [] all = refl
-unknown_handle handle (w ∷ ws) all =
-    let other : eqb w.handle handle ≡ false = let old : w.handle < handle = all.0 in grind (arith, nat_tests) in
-    rw other (unknown_handle handle ws all.1)
-
-create_covers : (setup : Setup) (s : State) (w : Win) → AllByRecursion (IsOld w.handle) s.windows → IsRightOutsideDamage setup s → IsRightOutsideDamage setup (after_create setup s w)
-create_covers setup s w old covers x y x_in y_in outside =
-    let p : Point = point_at (pos x) (pos y) in
-    let now = s.windows ++ w ∷ [] in
-    let d : AreasCover setup.assets (screen_of setup) s.windows now (clip_in (screen_of setup) now w ∷ []) p = AreasCover-adds setup.assets (screen_of setup) s.windows now w p (Adds-last s.windows w (unknown_handle w.handle s.windows old)) in
-    covers x y x_in y_in (d.stays outside) ∙ sym (d.covers outside)
-
--- ---- the opening
+-- ---- the desktop
 
 on_axis : (last z : ℕ) → z < last → is_within (pos 0) ((pos 0 +ℤ pos last) -ℤ pos 1) (pos z) ≡ true
 unfolding is_within
@@ -139,37 +56,112 @@ on_side : (last z : ℕ) → z < last → is_within (pos 0) (pos last -ℤ pos 1
 unfolding is_within
 on_side last z less = grind (arith, ints)
 
-on_screen : (setup : Setup) (x y : ℕ) → x < setup.config.w → y < setup.config.h → has (screen_of setup) (point_at (pos x) (pos y)) ≡ true
+on_screen_of : (setup : Setup) (x y : ℕ) → x < setup.config.w → y < setup.config.h → has (screen_of setup) (point_at (pos x) (pos y)) ≡ true
 unfolding has
-on_screen setup x y x_in y_in = rw (on_side setup.config.w x x_in, on_side setup.config.h y y_in) refl
+on_screen_of setup x y x_in y_in = rw (on_side setup.config.w x x_in, on_side setup.config.h y y_in) refl
 
 -- the desktop has all points of the screen
-desktop_has : (setup : Setup) (x y : ℕ) → x < setup.config.w → y < setup.config.h → has ((looks_of setup (opening setup).windows).clip (desktop_with setup.config.w setup.config.h (screen_of setup))) (point_at (pos x) (pos y)) ≡ true
+desk_has : (setup : Setup) (found : ℕ → Option Place) (x y : ℕ) → x < setup.config.w → y < setup.config.h → has (clip_of deepest_level (screen_of setup) found (desk setup)) (point_at (pos x) (pos y)) ≡ true
 unfolding has
-desktop_has setup x y x_in y_in =
-    let q : Place = place_of (desktop_with setup.config.w setup.config.h (screen_of setup)) in
-    let frame : Rect = frame_of (point_at (pos 0) (pos 0)) q in
+desk_has setup found x y x_in y_in =
+    let frame : Rect = frame_of (point_at (pos 0) (pos 0)) (desk setup) in
     let in_frame : has frame (point_at (pos x) (pos y)) ≡ true = rw (on_axis setup.config.w x x_in, on_axis setup.config.h y y_in) refl in
-    has-meet frame (screen_of setup) (point_at (pos x) (pos y)) ∙ and_from (has frame (point_at (pos x) (pos y))) (has (screen_of setup) (point_at (pos x) (pos y))) in_frame (on_screen setup x y x_in y_in)
+    has-meet frame (screen_of setup) (point_at (pos x) (pos y)) ∙ and_from (has frame (point_at (pos x) (pos y))) (has (screen_of setup) (point_at (pos x) (pos y))) in_frame (on_screen_of setup x y x_in y_in)
+
+-- so a window is at each of them
+inside : (setup : Setup) (ws : List Win) (handles x y : ℕ) → IsShaped setup ws handles → x < setup.config.w → y < setup.config.h → clips_have (looks_of setup ws) ws (point_at (pos x) (pos y)) ≡ true
+inside setup ws handles x y s x_in y_in = clips_have-found setup.assets (screen_of setup) ws 1 (desk setup) (point_at (pos x) (pos y)) s.desktop (desk_has setup (λ h. place_at ws h) x y x_in y_in)
+
+-- ---- the opening
+
+opening_shaped : (setup : Setup) → IsShaped setup (opening setup).windows 1
+opening_shaped setup =
+    let d : Win = desktop_with setup.config.w setup.config.h (screen_of setup) in
+    record {
+      stack = stack_alone (bones d) refl refl (record { x = refl; y = refl; width = omega arith; height = omega arith; shown = refl; class = refl; trans = refl }) (bones_window d (omega arith));
+      given = (omega arith, tt);
+      desktop = refl;
+    }
 
 opening_covers : (setup : Setup) → IsRightOutsideDamage setup (opening setup)
 opening_covers setup x y x_in y_in outside =
-    absurd (false≢true (sym outside ∙ rw (desktop_has setup x y x_in y_in, on_screen setup x y x_in y_in) refl))
+    absurd (false≢true (sym outside ∙ rw (desk_has setup (λ h. place_at (opening setup).windows h) x y x_in y_in, on_screen_of setup x y x_in y_in) refl))
+
+-- ---- changes that are covered
+
+-- the damage covers the change at each point of the screen
+abbrev Covers : Setup → List Win → List Win → Type 0
+Covers setup ws vs = (x y : ℕ) → x < setup.config.w → y < setup.config.h → DamageCovers (looks_of setup ws) ws (looks_of setup vs) vs (point_at (pos x) (pos y))
+
+right_after : (setup : Setup) (s : State) (vs : List Win) (handles : ℕ) → IsRightOutsideDamage setup s → Covers setup s.windows vs → IsRightOutsideDamage setup (record { windows = vs; handles = handles; shown = s.shown })
+right_after setup s vs handles right covers x y x_in y_in outside =
+    let d = covers x y x_in y_in in
+    right x y x_in y_in (d.stays outside) ∙ sym (d.covers outside)
+
+-- ---- one window of which more is invalid
+
+grown_has : (o : Option Rect) (r : Rect) (p : Point) → some_has o p ≡ true → has (grown o r) p ≡ true
+grown_has None r p some = absurd (false≢true some)
+grown_has (Some old) r p some = let both = cover-smallest old r in both.first p some
+
+alone_same : (looks : Looks) (p : Point) (w : Win) → ChangesAlone looks p w w
+alone_same looks p w = record { place = refl; opaque = refl; grows = λ h. h; covers = λ here. inr refl }
+
+alone_invalid : (setup : Setup) (us : List Win) (p : Point) (clip area : Rect) (w : Win) → ChangesAlone (looks_of setup us) p w (invalidated clip area w)
+alone_invalid setup us p clip area w =
+    elim (cases_Bool (is_empty (meet area clip))) [
+      | inl e ↦ rw e (alone_same (looks_of setup us) p w)
+      | inr e ↦ rw e (record { place = refl; opaque = refl; grows = λ h. grown_has w.invalid (meet area clip) p h; covers = λ here. inr refl })
+    ]
+
+alone_changed : (looks : Looks) (p : Point) (h : ℕ) (f : Win → Win) (ws : List Win) → ((w : Win) → ChangesAlone looks p w (f w)) → AllZip (ChangesAlone looks p) ws (window_changed h f ws)
+unfolding window_changed
+alone_changed looks p h f [] alone = tt
+alone_changed looks p h f (w ∷ ws) alone =
+    elim (cases_Bool (eqb w.handle h)) [
+      | inl at ↦ rw at (alone w, alone_changed looks p h f ws alone)
+      | inr off ↦ rw off (alone_same looks p w, alone_changed looks p h f ws alone)
+    ]
+
+invalid_covers : (setup : Setup) (ws : List Win) (h : ℕ) (clip area : Win → Rect) → Covers setup ws (window_changed h (λ w. invalidated (clip w) (area w) w) ws)
+invalid_covers setup ws h clip area x y x_in y_in =
+    let p : Point = point_at (pos x) (pos y) in
+    DamageCovers-alone setup.assets (screen_of setup) ws (window_changed h (λ w. invalidated (clip w) (area w) w) ws) p
+    (alone_changed (looks_of setup ws) p h (λ w. invalidated (clip w) (area w) w) ws (λ w. alone_invalid setup ws p (clip w) (area w) w))
+
+-- ---- calls on one window
+
+own_leads : (setup : Setup) (ws : List Win) (handles : ℕ) (w : Win) (c : Change) → IsShaped setup ws handles → window_of ws w.handle ≡ Some w → w.handle ≢ 1 → Leads setup ws (list_after w.handle c ws) handles w.handle
+own_leads setup ws handles w change.Delete s live other = leads_without setup ws handles w s live other
+own_leads setup ws handles w (change.MoveTo x y) s live other = leads_changed setup ws handles w (moved_to x y) (record { keeps = λ v. refl }) s live other
+own_leads setup ws handles w (change.MoveBy dx dy) s live other = leads_changed setup ws handles w (moved_by dx dy) (record { keeps = λ v. refl }) s live other
+own_leads setup ws handles w (change.Resize width height) s live other = leads_changed setup ws handles w (resized_to width height) (record { keeps = λ v. refl }) s live other
+own_leads setup ws handles w change.Show s live other = leads_changed setup ws handles w (with_shown true) (record { keeps = λ v. refl }) s live other
+own_leads setup ws handles w change.Hide s live other = leads_changed setup ws handles w (with_shown false) (record { keeps = λ v. refl }) s live other
+own_leads setup ws handles w change.ToTop s live other = leads_raised setup ws handles w s live other
+own_leads setup ws handles w change.ToBottom s live other = leads_lowered setup ws handles w s live other
+own_leads setup ws handles w (change.SetClass class) s live other = leads_changed setup ws handles w (with_class class) (record { keeps = λ v. refl }) s live other
+
+leads_listed : (setup : Setup) (ws : List Win) (handles h : ℕ) (c : Change) → IsShaped setup ws handles → MayChange ws h → Leads setup ws (list_after h c ws) handles h
+leads_listed setup ws handles h c s m =
+    let own = found_handle ws h m.win m.live in
+    subst (λ (n : ℕ). Leads setup ws (list_after n c ws) handles n) own
+    (own_leads setup ws handles m.win c s (ap (window_of ws) own ∙ m.live) (λ e. m.other (sym own ∙ e)))
 
 -- ---- all calls
 
 -- what holds after each call
 pub record Holds (setup : Setup) (s : State) : Type 0 where
-  pub old : AllByRecursion (IsOld s.next) s.windows
+  pub shaped : IsShaped setup s.windows s.handles
   pub covers : IsRightOutsideDamage setup s
   pub shown : IsPictured setup.config.w setup.config.h s.shown
 
 opening_holds : (setup : Setup) → Holds setup (opening setup)
-opening_holds setup = record { old = (omega arith, tt); covers = opening_covers setup; shown = record { colours = λ x y. 0; is = refl } }
+opening_holds setup = record { shaped = opening_shaped setup; covers = opening_covers setup; shown = record { colours = λ x y. 0; is = refl } }
 
 job_holds : (setup : Setup) (s : State) → Holds setup s → Holds setup (after_job setup s)
 job_holds setup s h = record {
-  old = all-same (IsOld s.next) s.windows (windows_after_job s.windows) (ignores_old s.next) (bare-job s.windows) h.old;
+  shaped = shaped_same setup s.windows _ s.handles (bare-job s.windows) h.shaped;
   covers = job_covers setup s (position is_invalid s.windows) refl h.shown h.covers;
   shown = pictured_some setup.config.w setup.config.h (looks_of setup s.windows) s.windows (position is_invalid s.windows) s.shown h.shown;
 }
@@ -178,31 +170,72 @@ jobs_hold : (setup : Setup) (n : ℕ) (s : State) → Holds setup s → Holds se
 jobs_hold setup zero s h = h
 jobs_hold setup (suc n) s h = jobs_hold setup n (after_job setup s) (job_holds setup s h)
 
-old_with_window : (setup : Setup) (ws : List Win) (w : Win) → AllByRecursion (IsOld w.handle) ws → AllByRecursion (IsOld (w.handle + 1)) (with_window setup ws w)
-old_with_window setup ws w old =
-    let now = ws ++ w ∷ [] in
-    let clip = clip_in (screen_of setup) now in
-    all-same (IsOld (w.handle + 1)) now (with_window setup ws w) (ignores_old (w.handle + 1)) (bare-area clip (clip w) now)
-    (all-push (IsOld (w.handle + 1)) ws w (older w.handle (w.handle + 1) ws (omega arith) old) (omega arith))
+-- a change of what is invalid alone
+marked_holds : (setup : Setup) (s : State) (vs : List Win) → map bare vs ≡ map bare s.windows → Covers setup s.windows vs → Holds setup s → Holds setup (record s { windows = vs })
+marked_holds setup s vs same covers is = record {
+  shaped = shaped_same setup s.windows vs s.handles same is.shaped;
+  covers = right_after setup s vs s.handles is.covers covers;
+  shown = is.shown;
+}
 
-effect_holds : (setup : Setup) (s : State) (call : Call) → Holds setup s → Holds setup (effect setup s call).state
-effect_holds setup s (Create x y w h class) is =
-    let new = new_child s.next x y w h class in
-    record {
-      old = old_with_window setup s.windows new is.old;
-      covers = create_covers setup s new is.old is.covers;
-      shown = is.shown;
-    }
-effect_holds setup s Exec is = jobs_hold setup (jobs_of s.windows) s is
-effect_holds setup s Scan is = is
+-- a call that leads to a list
+led_holds : (setup : Setup) (s : State) (now : List Win) (handles h : ℕ) → Leads setup s.windows now handles h → Holds setup s → Holds setup (record { windows = after_change (screen_of setup) h s.windows now; handles = handles; shown = s.shown })
+led_holds setup s now handles h leads is = record {
+  shaped = shaped_same setup now _ handles (bare_after_change (screen_of setup) h s.windows now) leads.shaped;
+  covers = right_after setup s _ handles is.covers (λ x y x_in y_in. change_covers setup s.windows now handles h (point_at (pos x) (pos y)) leads (inside setup now handles x y leads.shaped x_in y_in));
+  shown = is.shown;
+}
 
-unless_refused_holds : (setup : Setup) (o : Option Refusal) (s : State) (done : Step) → Holds setup s → Holds setup done.state → Holds setup (unless_refused o s done).state
-unless_refused_holds setup None s done is is_done = is_done
-unless_refused_holds setup (Some refusal) s done is is_done = is
+changed_holds : (setup : Setup) (s : State) (h : ℕ) (c : Change) → MayChange s.windows h → Holds setup s → Holds setup (changed setup s h (list_after h c s.windows)).state
+changed_holds setup s h c fine is = led_holds setup s (list_after h c s.windows) s.handles h (leads_listed setup s.windows s.handles h c is.shaped fine) is
+
+created_holds : (setup : Setup) (s : State) (parent : ℕ) (x y : ℤ) (w h class : ℕ) → MayBeMade (length setup.assets.classes) s.windows parent w h class → Holds setup s → Holds setup (created setup s (new_window (s.handles + 1) parent x y w h class)).state
+created_holds setup s parent x y w h class m is =
+    let ws = s.windows in
+    let win : Win = new_window (s.handles + 1) parent x y w h class in
+    let new : IsNew (map bones ws) s.handles (bones win) (bones m.over') = record {
+      stack = is.shaped.stack;
+      given = is.shaped.given;
+      fresh = omega arith;
+      parent = live_bones ws parent m.over' m.live;
+      above = has_ancestors-map bones keeps_bones 7 ws m.over' ∙ m.above;
+      few = subst (λ (n : ℕ). n < 256) (sym (length-map ws bones)) (few_windows (length ws) m.few);
+      window = bones_window win (omega arith);
+    } in
+    led_holds setup s (on_top_of parent (win ∷ []) ws) (s.handles + 1) (s.handles + 1) (leads_created setup ws s.handles win (bones m.over') is.shaped new refl) is
+
+effect_holds : (setup : Setup) (s : State) (call : Call) → refusal_of (objections (length setup.assets.classes) s.windows call) ≡ None → Holds setup s → Holds setup (effect setup s call).state
+effect_holds setup s (Create parent x y w h class) e is = created_holds setup s parent x y w h class (may_be_made (length setup.assets.classes) s.windows parent x y w h class e) is
+effect_holds setup s (Delete h) e is = changed_holds setup s h change.Delete (may_change s.windows h [] e).0 is
+effect_holds setup s (MoveTo h x y) e is = changed_holds setup s h (change.MoveTo x y) (may_change s.windows h [] e).0 is
+effect_holds setup s (MoveBy h dx dy) e is = changed_holds setup s h (change.MoveBy dx dy) (may_change s.windows h [] e).0 is
+effect_holds setup s (Resize h width height) e is = changed_holds setup s h (change.Resize width height) (may_change s.windows h (bad_size width height ∷ []) e).0 is
+effect_holds setup s (Show h) e is = changed_holds setup s h change.Show (may_change s.windows h [] e).0 is
+effect_holds setup s (Hide h) e is = changed_holds setup s h change.Hide (may_change s.windows h [] e).0 is
+effect_holds setup s (ToTop h) e is = changed_holds setup s h change.ToTop (may_change s.windows h [] e).0 is
+effect_holds setup s (ToBottom h) e is = changed_holds setup s h change.ToBottom (may_change s.windows h [] e).0 is
+effect_holds setup s (SetClass h class) e is = changed_holds setup s h (change.SetClass class) (may_change s.windows h (no_class (length setup.assets.classes) class ∷ []) e).0 is
+effect_holds setup s (Invalidate h) e is =
+    let clip : Win → Rect = clip_in (screen_of setup) s.windows in
+    marked_holds setup s (with_invalid_window (screen_of setup) h s.windows) (bare_window (screen_of setup) h s.windows) (invalid_covers setup s.windows h clip clip) is
+effect_holds setup s (InvalidateRect h x0 y0 x1 y1) e is =
+    let local : Rect = rect_with x0 y0 x1 y1 in
+    marked_holds setup s (with_invalid_rect (screen_of setup) h local s.windows) (bare_rect (screen_of setup) h local s.windows) (invalid_covers setup s.windows h (clip_in (screen_of setup) s.windows) (λ w. on_screen s.windows w local)) is
+effect_holds setup s (InvalidateArea x0 y0 x1 y1) e is =
+    let area : Rect = rect_with x0 y0 x1 y1 in
+    marked_holds setup s (with_invalid_area (screen_of setup) area s.windows) (bare-area (clip_in (screen_of setup) s.windows) area s.windows)
+    (λ x y x_in y_in. AreasCover-areas setup.assets (screen_of setup) s.windows (area ∷ []) (point_at (pos x) (pos y))) is
+effect_holds setup s Exec e is = jobs_hold setup (jobs_of s.windows) s is
+effect_holds setup s Exec1 e is = jobs_hold setup (cond (list_any is_invalid s.windows) 1 0) s is
+effect_holds setup s Scan e is = is
+
+unless_refused_holds : (setup : Setup) (s : State) (done : Step) (o : Option Refusal) → Holds setup s → (o ≡ None → Holds setup done.state) → Holds setup (unless_refused o s done).state
+unless_refused_holds setup s done None is is_done = is_done refl
+unless_refused_holds setup s done (Some refusal) is is_done = is
 
 step_holds : (setup : Setup) (s : State) (e : Entry) → Holds setup s → Holds setup (step setup s e).state
 unfolding step
-step_holds setup s (entry.Call actor call) is = unless_refused_holds setup (refusal_of (objections setup s call)) s (effect setup s call) is (effect_holds setup s call is)
+step_holds setup s (entry.Call actor call) is = unless_refused_holds setup s (effect setup s call) (refusal_of (objections (length setup.assets.classes) s.windows call)) is (λ fine. effect_holds setup s call fine is)
 
 entries_hold : (setup : Setup) (s : State) (es : List Entry) → Holds setup s → Holds setup (state_after setup s es)
 entries_hold setup s [] is = is

@@ -1,12 +1,11 @@
 -- A job: the first invalid window, and the points that it paints.
-use Rattle.std.proofs.Common.{◌≡◌, ℕ, suc, ◌+◌, Bool, true, false, ◌||◌, cond, List, [], ◌∷◌, ◌++◌, length, get_or, set, ltb, take, drop, Option, Some, None, refl, sym, ap, subst, ◌∙◌, arith}
+use Rattle.std.proofs.Common.{◌≡◌, ℕ, suc, ◌+◌, Bool, true, false, ◌||◌, cond, List, [], ◌∷◌, ◌++◌, length, get_or, set, take, drop, Option, Some, None, refl, sym, ap, subst, ◌∙◌, inl, inr, arith}
 use Rattle.std.specs.Prelude.{position, count_by}
-use Rattle.std.specs.List.{AllByRecursion, sum_by, position_or_len}
+use Rattle.std.specs.List.{AllByRecursion, sum_by, list_any}
+use Rattle.std.proofs.lemmas.Bool.{cases_Bool}
 use Rattle.std.specs.Option.{option_map_or}
-use Rattle.std.proofs.lemmas.List.Sums.{sum_by-cons, sum_by-append, fails_before_first}
-use Rattle.std.proofs.lemmas.Bool.{ltb-false}
-use Rattle.std.proofs.lemmas.List.{take-append-drop, drop_more, length-take-le, set_at, get_or-take, get_or_default, length-take}
-use Rattle.std.proofs.lemmas.List.Elements.{recursion_from_All}
+use Rattle.std.proofs.lemmas.List.Sums.{sum_by-cons, sum_by-append}
+use Rattle.std.proofs.lemmas.List.{length-take-le, set_at}
 use Rattle.std.proofs.lemmas.List.Quantifiers.{position-Some}
 use Rattle.gfx_base.specs.declared.point.Point.{Point}
 use Rattle.frame.specs.Pictures.{Picture}
@@ -19,23 +18,7 @@ use Rattle.scene.proofs.CallerLemmas.{is_damaged-job}
 use Rattle.gui_core.specs.Setups.{Setup, screen_of, looks_of}
 use Rattle.invalidate.specs.Invalidation.{is_invalid}
 use Rattle.gui_core.specs.Jobs.{windows_after_job, picture_after_job}
-
--- the first invalid window, with those before and after it
-pub record Splits (ws before : List Win) (w : Win) (after : List Win) : Type 0 where
-  pub parts : ws ≡ before ++ w ∷ after
-  pub valid : AllByRecursion (λ v. is_invalid v ≡ false) before
-  pub invalid : is_invalid w ≡ true
-
-pub splits : (ws : List Win) (which : ℕ) → position is_invalid ws ≡ Some which → Splits ws (take which ws) (get_or ws which no_window) (drop (which + 1) ws)
-splits ws which e =
-    let p = position-Some is_invalid ws which no_window e in
-    record {
-      parts = sym (take-append-drop which ws) ∙ ap (λ (rest : List Win). take which ws ++ rest) (drop_more ws which no_window p.0);
-      valid = recursion_from_All (λ v. is_invalid v ≡ false) (take which ws) (λ k d lt.
-          let short = length-take which ws in
-          rw (get_or-take which ws k d (omega arith), get_or_default ws k d no_window (omega arith)) (p.2 k (omega arith)));
-      invalid = p.1;
-    }
+use Rattle.gui_core.proofs.FirstLemmas.{splits, none_pass}
 
 -- ---- the windows
 
@@ -75,14 +58,14 @@ height-job setup ws old = height_of-some (looks_of setup ws) ws (position is_inv
 pub damage-job : (setup : Setup) (ws : List Win) (which : ℕ) (p : Point) → position is_invalid ws ≡ Some which
     → is_damaged (looks_of setup ws) ws p ≡ (in_patch_at (looks_of setup ws) ws which p || is_damaged (looks_of setup (windows_after_job ws)) (windows_after_job ws) p)
 damage-job setup ws which p first =
-    let s = splits ws which first in
+    let s = splits is_invalid ws which first in
     let before = take which ws in
     let w = get_or ws which no_window in
     let after = drop (which + 1) ws in
     let all = before ++ w ∷ after in
     let lt = (position-Some is_invalid ws which no_window first).0 in
     let long : length before ≡ which = length-take-le which ws (omega arith) in
-    let valid = windows_after_job-parts before w after s.valid s.invalid in
+    let valid = windows_after_job-parts before w after s.others s.passes in
     let parts : is_damaged (looks_of setup all) all p ≡ (in_patch_at (looks_of setup all) all which p || is_damaged (looks_of setup (windows_after_job all)) (windows_after_job all) p) =
     is_damaged-job setup.assets (screen_of setup) before w after p
     ∙ ap (λ (n : ℕ). in_patch_at (looks_of setup all) all n p || is_damaged (looks_of setup (before ++ with_invalid w None ∷ after)) (before ++ with_invalid w None ∷ after) p) long
@@ -113,14 +96,8 @@ none_counts (w ∷ ws) valid =
     let left : sum_by f ws ≡ 0 = none_counts ws valid.1 in
     omega (arith, one, left)
 
-test_false : {A : Type 0} (b : Bool) (x : A) → cond b (Some x) None ≡ None → b ≡ false
-test_false true x e = absurd cc
-test_false false x e = refl
-
 pub none_invalid : (ws : List Win) → position is_invalid ws ≡ None → AllByRecursion (λ v. is_invalid v ≡ false) ws
-none_invalid ws e =
-    let past = ltb-false _ _ (test_false (ltb (position_or_len is_invalid ws) (length ws)) (position_or_len is_invalid ws) e) in
-    recursion_from_All (λ v. is_invalid v ≡ false) ws (λ k d lt. fails_before_first is_invalid ws k d (omega arith))
+none_invalid ws e = none_pass is_invalid ws e
 
 pub windows-no_job : (ws : List Win) → position is_invalid ws ≡ None → windows_after_job ws ≡ ws
 windows-no_job ws e = all_valid ws (none_invalid ws e)
@@ -132,22 +109,44 @@ no_jobs ws e = none_counts ws (none_invalid ws e)
 
 pub windows-set : (ws : List Win) (which : ℕ) → position is_invalid ws ≡ Some which → set ws which (with_invalid (get_or ws which no_window) None) ≡ windows_after_job ws
 windows-set ws which e =
-    let s = splits ws which e in
+    let s = splits is_invalid ws which e in
     let before = take which ws in
     let w = get_or ws which no_window in
     let after = drop (which + 1) ws in
     let lt = (position-Some is_invalid ws which no_window e).0 in
     ap (λ (vs : List Win). set vs which (with_invalid w None)) s.parts
     ∙ set_at before w after (with_invalid w None) which (length-take-le which ws (omega arith))
-    ∙ sym (windows_after_job-parts before w after s.valid s.invalid)
+    ∙ sym (windows_after_job-parts before w after s.others s.passes)
     ∙ ap windows_after_job (sym s.parts)
 
 pub jobs-more : (ws : List Win) (which : ℕ) → position is_invalid ws ≡ Some which → count_by is_invalid ws ≡ suc (count_by is_invalid (windows_after_job ws))
 jobs-more ws which e =
-    let s = splits ws which e in
+    let s = splits is_invalid ws which e in
     let before = take which ws in
     let w = get_or ws which no_window in
     let after = drop (which + 1) ws in
     ap (count_by is_invalid) s.parts
-    ∙ jobs-parts before w after s.invalid
-    ∙ ap (λ (vs : List Win). suc (count_by is_invalid vs)) (sym (windows_after_job-parts before w after s.valid s.invalid) ∙ ap windows_after_job (sym s.parts))
+    ∙ jobs-parts before w after s.passes
+    ∙ ap (λ (vs : List Win). suc (count_by is_invalid vs)) (sym (windows_after_job-parts before w after s.others s.passes) ∙ ap windows_after_job (sym s.parts))
+
+-- ---- whether there is a job
+
+any_none : (ws : List Win) → AllByRecursion (λ v. is_invalid v ≡ false) ws → list_any is_invalid ws ≡ false
+any_none [] all = refl
+any_none (w ∷ ws) all = rw (all.0, any_none ws all.1) refl
+
+any_midst : (before : List Win) (w : Win) (after : List Win) → is_invalid w ≡ true → list_any is_invalid (before ++ w ∷ after) ≡ true
+any_midst [] w after invalid = rw invalid refl
+any_midst (v ∷ before) w after invalid =
+    elim (cases_Bool (is_invalid v)) [
+      | inl e ↦ rw e refl
+      | inr e ↦ rw e (any_midst before w after invalid)
+    ]
+
+pub none_invalid_any : (ws : List Win) → position is_invalid ws ≡ None → ◌≡◌ {A = ℕ} 0 (cond (list_any is_invalid ws) 1 0)
+none_invalid_any ws e = sym (ap (λ (b : Bool). cond b 1 0) (any_none ws (none_invalid ws e)))
+
+pub some_invalid : (ws : List Win) (which : ℕ) → position is_invalid ws ≡ Some which → ◌≡◌ {A = ℕ} 1 (cond (list_any is_invalid ws) 1 0)
+some_invalid ws which e =
+    let s = splits is_invalid ws which e in
+    sym (ap (λ (b : Bool). cond b 1 0) (ap (list_any is_invalid) s.parts ∙ any_midst (take which ws) (get_or ws which no_window) (drop (which + 1) ws) s.passes))

@@ -1,166 +1,54 @@
 -- What is true of every core goes on to be true.
-use Rattle.std.proofs.Common.{◌≡◌, ℕ, suc, ◌+◌, ◌<◌, ◌≤◌, Bool, false, cond, eqb, List, [], ◌∷◌, ◌++◌, length, map, take, Some, None, refl, sym, ap, subst, inl, inr, ◌∙◌, arith}
+use Rattle.std.proofs.Common.{◌≡◌, ℕ, suc, ◌+◌, ◌≤◌, List, length, take, Some, None, refl, sym, ap, ◌∙◌, arith}
 use Rattle.std.specs.Prelude.{position}
-use Rattle.std.specs.List.{refill, AllByRecursion}
-use Rattle.std.proofs.lemmas.Bool.{cases_Bool}
-use Rattle.std.proofs.lemmas.List.{append-nil, take_all, drop_all, length-map, length_push}
+use Rattle.std.specs.List.{refill}
+use Rattle.std.proofs.lemmas.List.{append-nil, take_all, drop_all}
 use Rattle.std.proofs.lemmas.List.Sums.{count_by-le-length}
-use Rattle.std.proofs.lemmas.Bool.Decides.{nat_tests}
 use Rattle.frame.specs.Pictures.{Picture}
 use Rattle.scene.specs.declared.win.Win.{Win}
-use Rattle.scene.specs.Places.{number_of, AreSingle}
-use Rattle.scene.specs.Looks.{IsPaintable}
-use Rattle.scene.proofs.CallerLemmas.{bare, length-same, bare-area, all-push}
-use Rattle.paint_ops.specs.Kinds.{Assets}
-use Rattle.gui_core.specs.Setups.{Setup, looks_of}
-use Rattle.gui_core.specs.Windows.{with_window}
+use Rattle.scene.proofs.CallerLemmas.{length-same}
+use Rattle.gui_core.specs.Setups.{Setup}
+use Rattle.gui_core.specs.Scenes.{IsScene}
 use Rattle.invalidate.specs.Invalidation.{is_invalid}
 use Rattle.gui_core.specs.Jobs.{windows_after_job, jobs_of}
-use Rattle.gui_core.specs.States.{State, after_create, after_job, after_jobs}
-use Rattle.gui_core.specs.Machines.{Machine, IsOld, IsKept}
+use Rattle.gui_core.specs.States.{State, after_job, after_jobs}
+use Rattle.gui_core.specs.Machines.{Machine, IsKept}
+use Rattle.gui_core.proofs.IgnoreLemmas.{bare-job}
 use Rattle.gui_core.proofs.JobLemmas.{jobs-more, no_jobs, width-job, height-job}
-
--- ---- windows that differ in what is invalid alone
-
--- what each window is but for its invalid rectangle, and how many there are
-pub bare-job : (ws : List Win) → map bare (windows_after_job ws) ≡ map bare ws
-bare-job [] = refl
-bare-job (w ∷ ws) =
-    elim (cases_Bool (is_invalid w)) [
-      | inl invalid ↦ rw invalid refl
-      | inr valid ↦ rw valid (ap (λ (vs : List Win). bare w ∷ vs) (bare-job ws))
-    ]
-
--- what holds of windows whatever of them is invalid
-pub record Ignores (P : Win → Type 0) : Type 0 where
-  pub more : (w : Win) → P w → P (bare w)
-  pub less : (w : Win) → P (bare w) → P w
-
-all-bare : (P : Win → Type 0) (ws : List Win) → Ignores P → AllByRecursion P ws → AllByRecursion P (map bare ws)
-all-bare P [] i all = tt
-all-bare P (w ∷ ws) i all = (i.more w all.0, all-bare P ws i all.1)
-
-all-from_bare : (P : Win → Type 0) (ws : List Win) → Ignores P → AllByRecursion P (map bare ws) → AllByRecursion P ws
-all-from_bare P [] i all = tt
-all-from_bare P (w ∷ ws) i all = (i.less w all.0, all-from_bare P ws i all.1)
-
-pub all-same : (P : Win → Type 0) (ws vs : List Win) → Ignores P → map bare vs ≡ map bare ws → AllByRecursion P ws → AllByRecursion P vs
-all-same P ws vs i e all = all-from_bare P vs i (subst (AllByRecursion P) (sym e) (all-bare P ws i all))
-
-number_of-bare : (handle : ℕ) (ws : List Win) → number_of handle (map bare ws) ≡ number_of handle ws
-number_of-bare handle [] = refl
-number_of-bare handle (w ∷ ws) = ap (λ (n : ℕ). cond (eqb w.handle handle) 1 0 + n) (number_of-bare handle ws)
-
-pub single-same : (ws vs : List Win) → map bare vs ≡ map bare ws → AreSingle ws → AreSingle vs
-single-same ws vs e single handle =
-    subst (λ (n : ℕ). n ≤ 1) (sym (sym (number_of-bare handle vs) ∙ ap (number_of handle) e ∙ number_of-bare handle ws)) (single handle)
-
-pub ignores_old : (next : ℕ) → Ignores (IsOld next)
-ignores_old next = record { more = λ w old. old; less = λ w old. old }
-
-ignores_paintable : (assets : Assets) → Ignores (IsPaintable assets)
-ignores_paintable assets = record {
-  more = λ w is. record { width = is.width; height = is.height; class = is.class };
-  less = λ w is. record { width = is.width; height = is.height; class = is.class };
-}
-
--- the core with other windows, which differ in what is invalid alone, and with another picture of the same sides
-pub kept-same : (m : Machine) (ws : List Win) (p : Picture) → IsKept m → map bare ws ≡ map bare m.state.windows → p.width ≡ m.state.shown.width → p.height ≡ m.state.shown.height
-    → IsKept (record m { state = record m.state { windows = ws; shown = p } })
-kept-same m ws p kept e wide high =
-    let count = length-same m.state.windows ws e in
-    record {
-      config = kept.config;
-      assets = kept.assets;
-      has_desktop = kept.has_desktop;
-      width = wide ∙ kept.width;
-      height = high ∙ kept.height;
-      few = let few = kept.few in omega arith;
-      next = let next = kept.next in omega arith;
-      old = all-same (IsOld m.state.next) m.state.windows ws (ignores_old m.state.next) e kept.old;
-      single = single-same m.state.windows ws e kept.single;
-      paintable = all-same (IsPaintable m.setup.assets) m.state.windows ws (ignores_paintable m.setup.assets) e kept.paintable;
-      made = kept.made;
-      refused = kept.refused;
-    }
-
--- ---- a window more
-
-number_of-push : (handle : ℕ) (ws : List Win) (w : Win) → number_of handle (ws ++ w ∷ []) ≡ number_of handle ws + cond (eqb w.handle handle) 1 0
-number_of-push handle [] w = omega arith
-number_of-push handle (v ∷ ws) w = let rest = number_of-push handle ws w in omega (arith, rest)
-
--- a handle that wasn't given out is nobody's
-number_of-new : (handle : ℕ) (ws : List Win) → AllByRecursion (IsOld handle) ws → number_of handle ws ≡ 0
-number_of-new handle [] all = refl
-number_of-new handle (w ∷ ws) all =
-    let other : eqb w.handle handle ≡ false = let old : w.handle < handle = all.0 in grind (arith, nat_tests) in
-    let rest = number_of-new handle ws all.1 in
-    rw other (omega (arith, rest))
-
-single-push : (ws : List Win) (w : Win) → AreSingle ws → AllByRecursion (IsOld w.handle) ws → AreSingle (ws ++ w ∷ [])
-single-push ws w single all handle =
-    let push = number_of-push handle ws w in
-    let before = single handle in
-    elim (cases_Bool (eqb w.handle handle)) [
-      | inl e ↦
-          let same : w.handle ≡ handle = grind (arith, nat_tests) in
-          let none : number_of handle ws ≡ 0 = ap (λ (n : ℕ). number_of n ws) (sym same) ∙ number_of-new w.handle ws all in
-          let now : number_of handle (ws ++ w ∷ []) ≡ number_of handle ws + 1 = push ∙ ap (λ (b : Bool). number_of handle ws + cond b 1 0) e in
-          omega (arith, now, none)
-      | inr e ↦
-          let now : number_of handle (ws ++ w ∷ []) ≡ number_of handle ws + 0 = push ∙ ap (λ (b : Bool). number_of handle ws + cond b 1 0) e in
-          omega (arith, now, before)
-    ]
-
-pub older : (few many : ℕ) (ws : List Win) → few ≤ many → AllByRecursion (IsOld few) ws → AllByRecursion (IsOld many) ws
-older few many [] more all = tt
-older few many (w ∷ ws) more all = (let old : w.handle < few = all.0 in omega arith, older few many ws more all.1)
-
--- the core with a window more
-pub kept-push : (m : Machine) (w : Win) → IsKept m → length m.state.windows < 256 → w.handle ≡ m.state.next → IsPaintable m.setup.assets w
-    → IsKept (record m { state = record m.state { windows = m.state.windows ++ w ∷ []; next = m.state.next + 1 } })
-kept-push m w kept few handle paintable =
-    let count = length_push m.state.windows w in
-    record {
-      config = kept.config;
-      assets = kept.assets;
-      has_desktop = kept.has_desktop;
-      width = kept.width;
-      height = kept.height;
-      few = omega (arith, count, few);
-      next = let next = kept.next in omega (arith, count, next);
-      old = all-push (IsOld (m.state.next + 1)) m.state.windows w (older m.state.next (m.state.next + 1) m.state.windows (omega arith) kept.old) (omega (arith, handle));
-      single = single-push m.state.windows w kept.single (subst (λ (n : ℕ). AllByRecursion (IsOld n) m.state.windows) (sym handle) kept.old);
-      paintable = all-push (IsPaintable m.setup.assets) m.state.windows w kept.paintable paintable;
-      made = kept.made;
-      refused = kept.refused;
-    }
-
-pub kept-create : (m : Machine) (w : Win) → IsKept m → length m.state.windows < 256 → w.handle ≡ m.state.next → IsPaintable m.setup.assets w → IsKept (record m { state = after_create m.setup m.state w })
-kept-create m w kept few handle paintable =
-    let ws = m.state.windows ++ w ∷ [] in
-    let looks = looks_of m.setup ws in
-    let pushed : Machine = record m { state = record m.state { windows = ws; next = m.state.next + 1 } } in
-    kept-same pushed (with_window m.setup m.state.windows w) m.state.shown (kept-push m w kept few handle paintable) (bare-area looks.clip (looks.clip w) ws) refl refl
+use Rattle.gui_core.proofs.SceneLemmas.{scene_job}
 
 -- ---- a job
 
-pub kept-job : (m : Machine) → IsKept m → IsKept (record m { state = after_job m.setup m.state })
-kept-job m kept = kept-same m (windows_after_job m.state.windows) _ kept (bare-job m.state.windows) (width-job m.setup m.state.windows m.state.shown) (height-job m.setup m.state.windows m.state.shown)
+-- the core with other windows, which are those of a tree too, and with another picture of the same sides
+pub kept-with : (m : Machine) (ws : List Win) (handles : ℕ) (p : Picture) → IsKept m → IsScene m.setup ws handles → handles ≤ m.made + 1 → p.width ≡ m.state.shown.width → p.height ≡ m.state.shown.height
+    → IsKept (record m { state = record { windows = ws; handles = handles; shown = p } })
+kept-with m ws handles p kept scene few wide high = record {
+  config = kept.config;
+  assets = kept.assets;
+  has_desktop = kept.has_desktop;
+  width = wide ∙ kept.width;
+  height = high ∙ kept.height;
+  scene = scene;
+  handles = few;
+  made = kept.made;
+  refused = kept.refused;
+}
 
-pub kept-counted : (m : Machine) (made refused : ℕ) → IsKept m → made ≤ m.setup.config.calls → refused ≤ made → IsKept (record m { made = made; refused = refused })
-kept-counted m made refused kept few fewer = record {
+pub kept-windows : (m : Machine) (ws : List Win) → IsKept m → IsScene m.setup ws m.state.handles → IsKept (record m { state = record m.state { windows = ws } })
+kept-windows m ws kept scene = kept-with m ws m.state.handles m.state.shown kept scene kept.handles refl refl
+
+pub kept-job : (m : Machine) → IsKept m → IsKept (record m { state = after_job m.setup m.state })
+kept-job m kept = kept-with m (windows_after_job m.state.windows) m.state.handles _ kept (scene_job m.setup m.state.windows m.state.handles kept.scene) kept.handles (width-job m.setup m.state.windows m.state.shown) (height-job m.setup m.state.windows m.state.shown)
+
+pub kept-counted : (m : Machine) (made refused : ℕ) → IsKept m → m.made ≤ made → made ≤ m.setup.config.calls → refused ≤ made → IsKept (record m { made = made; refused = refused })
+kept-counted m made refused kept more few fewer = record {
   config = kept.config;
   assets = kept.assets;
   has_desktop = kept.has_desktop;
   width = kept.width;
   height = kept.height;
-  few = kept.few;
-  next = kept.next;
-  old = kept.old;
-  single = kept.single;
-  paintable = kept.paintable;
+  scene = kept.scene;
+  handles = let handles = kept.handles in omega arith;
   made = few;
   refused = fewer;
 }

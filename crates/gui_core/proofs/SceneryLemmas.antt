@@ -1,27 +1,32 @@
 -- What the painter's picture looks at, and the calls that change nothing of it.
-use Rattle.std.proofs.Common.{◌≡◌, ℕ, ℤ, ◌+◌, zero, suc, List, [], ◌∷◌, ◌++◌, length, map, Option, Some, None, refl, sym, ap, subst, ◌∙◌}
-use Rattle.std.proofs.lemmas.List.{map-append}
-use Rattle.gfx_base.specs.Rects.{point_at}
-use Rattle.std.proofs.Common.{pos}
-use Rattle.std.specs.Prelude.{nat_le}
+use Rattle.std.proofs.Common.{◌≡◌, ℕ, ℤ, ◌+◌, zero, suc, pos, false, cond, List, [], ◌∷◌, length, map, Option, Some, None, refl, sym, ap, subst, ◌∙◌, inl, inr}
+use Rattle.std.specs.List.{list_any}
 use Rattle.std.proofs.Math.Path.{fun_ext}
+use Rattle.std.proofs.lemmas.Bool.{cases_Bool}
+use Rattle.gfx_base.specs.declared.rect.Rect.{Rect}
+use Rattle.gfx_base.specs.Rects.{point_at}
 use Rattle.frame.specs.Pictures.{picture_of}
 use Rattle.scene.specs.declared.win.Win.{Win}
+use Rattle.scene.specs.Clips.{clip_in}
+use Rattle.scene.specs.Families.{new_window, on_top_of}
+use Rattle.scene.proofs.CallerLemmas.{bare, bare-area, painted-same}
 use Rattle.calls.specs.declared.call.Call.{Call}
-use Rattle.calls.specs.declared.call.Call.TheVariants.{Create, Exec, Scan}
+use Rattle.calls.specs.declared.call.Call.TheVariants.{Create, Delete, MoveTo, MoveBy, Resize, Show, Hide, ToTop, ToBottom, SetClass, Invalidate, InvalidateRect, InvalidateArea, Exec, Exec1, Scan}
 use Rattle.calls.specs.declared.entry.Entry.{Entry}
 use Rattle.calls.specs.declared.entry.Entry.TheVariants as entry
 use Rattle.calls.specs.declared.reply.Reply.TheVariants.{Refused}
 use Rattle.calls.specs.declared.reply.Refusal.{Refusal}
-use Rattle.calls.specs.declared.reply.Refusal.TheVariants.{BadSize, NoClass, TooManyWindows}
-use Rattle.gui_core.specs.Setups.{Setup, screen_of, looks_of, painter}
-use Rattle.gui_core.specs.Windows.{new_child, with_window}
-use Rattle.scene.specs.Stacks.{is_bad_size}
+use Rattle.gui_core.specs.declared.change.Change.{Change}
+use Rattle.gui_core.specs.declared.change.Change.TheVariants as change
+use Rattle.gui_core.specs.Setups.{Setup, screen_of, painter}
+use Rattle.invalidate.specs.Invalidation.{is_invalid}
+use Rattle.gui_core.specs.Changes.{list_after}
 use Rattle.gui_core.specs.Jobs.{jobs_of}
-use Rattle.gui_core.specs.States.{State, Step, Objection, opening, objections, refusal_of, unless_refused, created, after_job, after_jobs, effect, step, state_after}
-use Rattle.gui_core.specs.Promises.{window_calls}
-use Rattle.scene.proofs.CallerLemmas.{bare, bare-area, length-same, painted-same}
-use Rattle.gui_core.proofs.KeptLemmas.{bare-job}
+use Rattle.gui_core.specs.States.{State, Step, Objection, opening, objections, refusal_of, unless_refused, changed, created, after_create, after_job, after_jobs, painted, rect_with, effect, step, state_after}
+use Rattle.gui_core.specs.Promises.{changes_windows, window_calls}
+use Rattle.gui_core.proofs.IgnoreLemmas.{bare-job}
+use Rattle.gui_core.proofs.ShapeLemmas.{on_top_of-map}
+use Rattle.gui_core.proofs.BareLemmas.{keeps_bare, bare_after_change, bare_window, bare_rect, listed_bare, objections-bare}
 
 -- ---- a refused call
 
@@ -30,81 +35,158 @@ refused_stays None s done refusal fine e = absurd (fine refusal e)
 refused_stays (Some why) s done refusal fine e = refl
 
 effect_is_no_refusal : (setup : Setup) (s : State) (call : Call) (r : Refusal) → (effect setup s call).reply ≡ Refused r → ⊥
-effect_is_no_refusal setup s (Create x y w h class) r e = absurd cc
+effect_is_no_refusal setup s (Create parent x y w h class) r e = absurd cc
+effect_is_no_refusal setup s (Delete h) r e = absurd cc
+effect_is_no_refusal setup s (MoveTo h x y) r e = absurd cc
+effect_is_no_refusal setup s (MoveBy h dx dy) r e = absurd cc
+effect_is_no_refusal setup s (Resize h width height) r e = absurd cc
+effect_is_no_refusal setup s (Show h) r e = absurd cc
+effect_is_no_refusal setup s (Hide h) r e = absurd cc
+effect_is_no_refusal setup s (ToTop h) r e = absurd cc
+effect_is_no_refusal setup s (ToBottom h) r e = absurd cc
+effect_is_no_refusal setup s (SetClass h class) r e = absurd cc
+effect_is_no_refusal setup s (Invalidate h) r e = absurd cc
+effect_is_no_refusal setup s (InvalidateRect h x0 y0 x1 y1) r e = absurd cc
+effect_is_no_refusal setup s (InvalidateArea x0 y0 x1 y1) r e = absurd cc
 effect_is_no_refusal setup s Exec r e = absurd cc
+effect_is_no_refusal setup s Exec1 r e = absurd cc
 effect_is_no_refusal setup s Scan r e = absurd cc
 
 pub refusal_changes_nothing : (setup : Setup) (s : State) (e : Entry) (refusal : Refusal) → (step setup s e).reply ≡ Refused refusal → (step setup s e).state ≡ s
 unfolding step
 refusal_changes_nothing setup s (entry.Call actor call) refusal e =
-    refused_stays (refusal_of (objections setup s call)) s (effect setup s call) refusal (effect_is_no_refusal setup s call) e
+    refused_stays (refusal_of (objections (length setup.assets.classes) s.windows call)) s (effect setup s call) refusal (effect_is_no_refusal setup s call) e
 
 -- ---- the same scenery
 
 -- two states have the same windows, but for what is invalid
 pub record AreAlike (s t : State) : Type 0 where
   pub windows : map bare s.windows ≡ map bare t.windows
-  pub next : s.next ≡ t.next
+  pub handles : s.handles ≡ t.handles
 
 alike_refl : (s : State) → AreAlike s s
-alike_refl s = record { windows = refl; next = refl }
+alike_refl s = record { windows = refl; handles = refl }
+
+alike_sym : (s t : State) → AreAlike s t → AreAlike t s
+alike_sym s t e = record { windows = sym e.windows; handles = sym e.handles }
 
 alike_after : (s t u : State) → AreAlike s t → AreAlike t u → AreAlike s u
-alike_after s t u first second = record { windows = first.windows ∙ second.windows; next = first.next ∙ second.next }
+alike_after s t u first second = record { windows = first.windows ∙ second.windows; handles = first.handles ∙ second.handles }
 
 job_alike : (setup : Setup) (s : State) → AreAlike (after_job setup s) s
-job_alike setup s = record { windows = bare-job s.windows; next = refl }
+job_alike setup s = record { windows = bare-job s.windows; handles = refl }
 
 jobs_alike : (setup : Setup) (n : ℕ) (s : State) → AreAlike (after_jobs setup n s) s
 jobs_alike setup zero s = alike_refl s
 jobs_alike setup (suc n) s = alike_after _ (after_job setup s) s (jobs_alike setup n (after_job setup s)) (job_alike setup s)
 
-bare-push : (ws vs : List Win) (w : Win) → map bare ws ≡ map bare vs → map bare (ws ++ w ∷ []) ≡ map bare (vs ++ w ∷ [])
-bare-push ws vs w e = map-append bare ws (w ∷ []) ∙ ap (λ (us : List Win). us ++ bare w ∷ []) e ∙ sym (map-append bare vs (w ∷ []))
+painted_alike : (setup : Setup) (s t : State) (n m : ℕ) → AreAlike s t → AreAlike (painted setup s n).state (painted setup t m).state
+painted_alike setup s t n m e = alike_after _ s _ (jobs_alike setup n s) (alike_after s t _ e (alike_sym _ t (jobs_alike setup m t)))
 
-with_window-alike : (setup : Setup) (ws vs : List Win) (w : Win) → map bare ws ≡ map bare vs → map bare (with_window setup ws w) ≡ map bare (with_window setup vs w)
-with_window-alike setup ws vs w e =
-    let left = looks_of setup (ws ++ w ∷ []) in
-    let right = looks_of setup (vs ++ w ∷ []) in
-    bare-area left.clip (left.clip w) (ws ++ w ∷ []) ∙ bare-push ws vs w e ∙ sym (bare-area right.clip (right.clip w) (vs ++ w ∷ []))
+-- ---- each call
 
-created_alike : (setup : Setup) (s t : State) (x y : ℤ) (w h class : ℕ) → AreAlike s t → AreAlike (created setup s (new_child s.next x y w h class)).state (created setup t (new_child t.next x y w h class)).state
-created_alike setup s t x y w h class e = record {
+created_bare : (setup : Setup) (s : State) (w : Win) → map bare (after_create setup s w).windows ≡ on_top_of w.parent (bare w ∷ []) (map bare s.windows)
+created_bare setup s w =
+    bare_after_change (screen_of setup) w.handle s.windows (on_top_of w.parent (w ∷ []) s.windows)
+    ∙ sym (on_top_of-map bare keeps_bare w.parent (w ∷ []) s.windows)
+
+created_alike : (setup : Setup) (s t : State) (parent : ℕ) (x y : ℤ) (w h class : ℕ) → AreAlike s t → AreAlike (created setup s (new_window (s.handles + 1) parent x y w h class)).state (created setup t (new_window (t.handles + 1) parent x y w h class)).state
+created_alike setup s t parent x y w h class e = record {
   windows =
-      ap (λ (n : ℕ). map bare (with_window setup s.windows (new_child n x y w h class))) e.next
-      ∙ with_window-alike setup s.windows t.windows (new_child t.next x y w h class) e.windows;
-  next = ap (λ (n : ℕ). n + 1) e.next;
+      created_bare setup s (new_window (s.handles + 1) parent x y w h class)
+      ∙ ap (λ (n : ℕ). on_top_of parent (new_window (n + 1) parent x y w h class ∷ []) (map bare s.windows)) e.handles
+      ∙ ap (on_top_of parent (new_window (t.handles + 1) parent x y w h class ∷ [])) e.windows
+      ∙ sym (created_bare setup t (new_window (t.handles + 1) parent x y w h class));
+  handles = ap (λ (n : ℕ). n + 1) e.handles;
 }
 
-objections-alike : (setup : Setup) (s t : State) (x y : ℤ) (w h class : ℕ) → AreAlike s t → objections setup s (Create x y w h class) ≡ objections setup t (Create x y w h class)
-objections-alike setup s t x y w h class e =
-    ap (λ (n : ℕ). (is_bad_size w h, BadSize) ∷ (nat_le (length setup.assets.classes) class, NoClass class) ∷ (nat_le 256 n, TooManyWindows) ∷ []) (length-same t.windows s.windows e.windows)
+changed_alike : (setup : Setup) (s t : State) (h : ℕ) (c : Change) → AreAlike s t → AreAlike (changed setup s h (list_after h c s.windows)).state (changed setup t h (list_after h c t.windows)).state
+changed_alike setup s t h c e = record {
+  windows =
+      bare_after_change (screen_of setup) h s.windows (list_after h c s.windows)
+      ∙ sym (listed_bare h c s.windows)
+      ∙ ap (list_after h c) e.windows
+      ∙ listed_bare h c t.windows
+      ∙ sym (bare_after_change (screen_of setup) h t.windows (list_after h c t.windows));
+  handles = e.handles;
+}
+
+-- the first invalid window's job, if there is one
+abbrev one_job : State → ℕ
+one_job s = cond (list_any is_invalid s.windows) 1 0
+
+-- each call leads from alike states to alike ones
+effect_alike : (setup : Setup) (s t : State) (call : Call) → AreAlike s t → AreAlike (effect setup s call).state (effect setup t call).state
+effect_alike setup s t (Create parent x y w h class) e = created_alike setup s t parent x y w h class e
+effect_alike setup s t (Delete h) e = changed_alike setup s t h change.Delete e
+effect_alike setup s t (MoveTo h x y) e = changed_alike setup s t h (change.MoveTo x y) e
+effect_alike setup s t (MoveBy h dx dy) e = changed_alike setup s t h (change.MoveBy dx dy) e
+effect_alike setup s t (Resize h width height) e = changed_alike setup s t h (change.Resize width height) e
+effect_alike setup s t (Show h) e = changed_alike setup s t h change.Show e
+effect_alike setup s t (Hide h) e = changed_alike setup s t h change.Hide e
+effect_alike setup s t (ToTop h) e = changed_alike setup s t h change.ToTop e
+effect_alike setup s t (ToBottom h) e = changed_alike setup s t h change.ToBottom e
+effect_alike setup s t (SetClass h class) e = changed_alike setup s t h (change.SetClass class) e
+effect_alike setup s t (Invalidate h) e = record {
+  windows = bare_window (screen_of setup) h s.windows ∙ e.windows ∙ sym (bare_window (screen_of setup) h t.windows);
+  handles = e.handles;
+}
+effect_alike setup s t (InvalidateRect h x0 y0 x1 y1) e =
+    let local : Rect = rect_with x0 y0 x1 y1 in
+    record {
+      windows = bare_rect (screen_of setup) h local s.windows ∙ e.windows ∙ sym (bare_rect (screen_of setup) h local t.windows);
+      handles = e.handles;
+    }
+effect_alike setup s t (InvalidateArea x0 y0 x1 y1) e =
+    let area : Rect = rect_with x0 y0 x1 y1 in
+    record {
+      windows = bare-area (clip_in (screen_of setup) s.windows) area s.windows ∙ e.windows ∙ sym (bare-area (clip_in (screen_of setup) t.windows) area t.windows);
+      handles = e.handles;
+    }
+effect_alike setup s t Exec e = painted_alike setup s t (jobs_of s.windows) (jobs_of t.windows) e
+effect_alike setup s t Exec1 e = painted_alike setup s t (one_job s) (one_job t) e
+effect_alike setup s t Scan e = record { windows = e.windows; handles = e.handles }
 
 unless_alike : (o : Option Refusal) (s t : State) (done end : Step) → AreAlike s t → AreAlike done.state end.state → AreAlike (unless_refused o s done).state (unless_refused o t end).state
 unless_alike None s t done end before after = after
 unless_alike (Some refusal) s t done end before after = before
 
-create_alike : (setup : Setup) (s t : State) (actor : ℕ) (x y : ℤ) (w h class : ℕ) → AreAlike s t → AreAlike (step setup s (entry.Call actor (Create x y w h class))).state (step setup t (entry.Call actor (Create x y w h class))).state
+step_alike : (setup : Setup) (s t : State) (e : Entry) → AreAlike s t → AreAlike (step setup s e).state (step setup t e).state
 unfolding step
-create_alike setup s t actor x y w h class e =
-    let call : Call = Create x y w h class in
-    subst (λ (l : List Objection). AreAlike (unless_refused (refusal_of l) s (effect setup s call)).state (step setup t (entry.Call actor call)).state) (sym (objections-alike setup s t x y w h class e))
-    (unless_alike (refusal_of (objections setup t call)) s t (effect setup s call) (effect setup t call) e (created_alike setup s t x y w h class e))
+step_alike setup s t (entry.Call actor call) e =
+    let classes = length setup.assets.classes in
+    let same : objections classes s.windows call ≡ objections classes t.windows call =
+    sym (objections-bare classes s.windows call) ∙ ap (λ (ws : List Win). objections classes ws call) e.windows ∙ objections-bare classes t.windows call in
+    subst (λ (l : List Objection). AreAlike (unless_refused (refusal_of l) s (effect setup s call)).state (unless_refused (refusal_of (objections classes t.windows call)) t (effect setup t call)).state) (sym same)
+    (unless_alike (refusal_of (objections classes t.windows call)) s t (effect setup s call) (effect setup t call) e (effect_alike setup s t call e))
 
-exec_alike : (setup : Setup) (s : State) (actor : ℕ) → AreAlike s (step setup s (entry.Call actor Exec)).state
+-- the other calls change nothing but what is invalid
+other_alike : (setup : Setup) (s : State) (e : Entry) → changes_windows e ≡ false → AreAlike s (step setup s e).state
 unfolding step
-exec_alike setup s actor = let a = jobs_alike setup (jobs_of s.windows) s in record { windows = sym a.windows; next = sym a.next }
-
-scan_alike : (setup : Setup) (s : State) (actor : ℕ) → AreAlike s (step setup s (entry.Call actor Scan)).state
-unfolding step
-scan_alike setup s actor = alike_refl s
+other_alike setup s (entry.Call actor (Create parent x y w h class)) window = absurd cc
+other_alike setup s (entry.Call actor (Delete h)) window = absurd cc
+other_alike setup s (entry.Call actor (MoveTo h x y)) window = absurd cc
+other_alike setup s (entry.Call actor (MoveBy h dx dy)) window = absurd cc
+other_alike setup s (entry.Call actor (Resize h width height)) window = absurd cc
+other_alike setup s (entry.Call actor (Show h)) window = absurd cc
+other_alike setup s (entry.Call actor (Hide h)) window = absurd cc
+other_alike setup s (entry.Call actor (ToTop h)) window = absurd cc
+other_alike setup s (entry.Call actor (ToBottom h)) window = absurd cc
+other_alike setup s (entry.Call actor (SetClass h class)) window = absurd cc
+other_alike setup s (entry.Call actor (Invalidate h)) window = absurd cc
+other_alike setup s (entry.Call actor (InvalidateRect h x0 y0 x1 y1)) window = absurd cc
+other_alike setup s (entry.Call actor (InvalidateArea x0 y0 x1 y1)) window = absurd cc
+other_alike setup s (entry.Call actor Exec) window = alike_sym _ s (jobs_alike setup (jobs_of s.windows) s)
+other_alike setup s (entry.Call actor Exec1) window = alike_sym _ s (jobs_alike setup (one_job s) s)
+other_alike setup s (entry.Call actor Scan) window = alike_refl s
 
 entries_alike : (setup : Setup) (s t : State) (es : List Entry) → AreAlike s t → AreAlike (state_after setup s (window_calls es)) (state_after setup t es)
-entries_alike setup s t [] e = e
-entries_alike setup s t (entry.Call actor (Create x y w h class) ∷ es) e =
-    entries_alike setup (step setup s (entry.Call actor (Create x y w h class))).state (step setup t (entry.Call actor (Create x y w h class))).state es (create_alike setup s t actor x y w h class e)
-entries_alike setup s t (entry.Call actor Exec ∷ es) e = entries_alike setup s (step setup t (entry.Call actor Exec)).state es (alike_after s t _ e (exec_alike setup t actor))
-entries_alike setup s t (entry.Call actor Scan ∷ es) e = entries_alike setup s (step setup t (entry.Call actor Scan)).state es (alike_after s t _ e (scan_alike setup t actor))
+entries_alike setup s t [] alike = alike
+entries_alike setup s t (e ∷ es) alike =
+    elim (cases_Bool (changes_windows e)) [
+      | inl window ↦ rw window (entries_alike setup (step setup s e).state (step setup t e).state es (step_alike setup s t e alike))
+      | inr other ↦ rw other (entries_alike setup s (step setup t e).state es (alike_after s t _ alike (other_alike setup t e other)))
+    ]
 
 pub painter-alike : (setup : Setup) (ws vs : List Win) → map bare ws ≡ map bare vs → painter setup ws ≡ painter setup vs
 painter-alike setup ws vs e =

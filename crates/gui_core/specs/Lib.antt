@@ -1,5 +1,8 @@
 pub mod Setups
 pub mod Windows
+pub mod Changes
+pub mod Scenes
+pub mod Refusals
 pub mod Jobs
 pub mod States
 pub mod Promises

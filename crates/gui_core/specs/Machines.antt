@@ -1,11 +1,8 @@
 -- The core as its callers see it: its state with what it was opened with.
-use Rattle.std.specs.Prelude.{◌≡◌, ℕ, ◌+◌, ◌<◌, ◌≤◌, if◌then◌else◌, length}
-use Rattle.std.specs.List.{AllByRecursion}
+use Rattle.std.specs.Prelude.{◌≡◌, ℕ, ◌+◌, ◌≤◌, if◌then◌else◌, length}
 use Rattle.paint_ops.specs.Kinds.{Assets}
 use Rattle.paint_ops.specs.Soundness.{IsSound}
-use Rattle.scene.specs.declared.win.Win.{Win}
-use Rattle.scene.specs.Places.{AreSingle}
-use Rattle.scene.specs.Looks.{IsPaintable}
+use Rattle.gui_core.specs.Scenes.{IsScene}
 use Rattle.calls.specs.declared.config.Config.{Config}
 use Rattle.calls.specs.declared.call.Call.{Call}
 use Rattle.calls.specs.declared.entry.Entry.TheVariants as entry
@@ -33,18 +30,11 @@ pub record IsConfig (config : Config) : Type 0 where
   pub buffers : config.buffers ≡ 1
   pub calls : config.calls ≤ 400000
 
--- a call took one step
+-- a call took one step, and isn't counted yet
 pub record Takes (old : Machine) (call : Call) (new : Machine) (reply : Reply) : Type 0 where
   pub rest : new ≡ record old { state = new.state }
   pub step : ◌≡◌ {A = Step} (record { state = new.state; reply = reply })
       (step_of_call old.setup old.state call)
-
--- one call more
-abbrev pub counted : Reply → Machine → Machine
-counted reply m = record m {
-  made = m.made + 1;
-  refused = m.refused + (if is_refused reply then 1 else 0);
-}
 
 -- a call took one step, and was counted
 pub record Answers (old : Machine) (actor : ℕ) (call : Call) (new : Machine)
@@ -55,10 +45,6 @@ pub record Answers (old : Machine) (actor : ℕ) (call : Call) (new : Machine)
   pub made : new.made ≡ old.made + 1
   pub refused : new.refused ≡ old.refused + (if is_refused reply then 1 else 0)
 
--- a handle that was given out
-abbrev pub IsOld : ℕ → Win → Type 0
-IsOld next w = w.handle < next
-
 -- What is true of every core.
 pub record IsKept (m : Machine) : Type 0 where
   pub config : IsConfig m.setup.config
@@ -66,10 +52,7 @@ pub record IsKept (m : Machine) : Type 0 where
   pub has_desktop : 1 ≤ length m.setup.assets.classes
   pub width : m.state.shown.width ≡ m.setup.config.w
   pub height : m.state.shown.height ≡ m.setup.config.h
-  pub few : length m.state.windows ≤ 256
-  pub next : m.state.next ≡ length m.state.windows + 1
-  pub old : AllByRecursion (IsOld m.state.next) m.state.windows
-  pub single : AreSingle m.state.windows
-  pub paintable : AllByRecursion (IsPaintable m.setup.assets) m.state.windows
+  pub scene : IsScene m.setup m.state.windows m.state.handles
+  pub handles : m.state.handles ≤ m.made + 1
   pub made : m.made ≤ m.setup.config.calls
   pub refused : m.refused ≤ m.made

@@ -6,7 +6,8 @@ use Rattle.frame.specs.Pictures.{colour_at}
 use Rattle.scene.specs.declared.win.Win.{Win}
 use Rattle.scene.specs.Painting.{painted}
 use Rattle.scene.specs.Damage.{is_damaged}
-use Rattle.calls.specs.declared.call.Call.TheVariants.{Create, Exec, Scan}
+use Rattle.calls.specs.declared.call.Call.{Call}
+use Rattle.calls.specs.declared.call.Call.TheVariants.{Exec, Exec1, Scan}
 use Rattle.calls.specs.declared.entry.Entry.{Entry}
 use Rattle.calls.specs.declared.entry.Entry.TheVariants as entry
 use Rattle.gui_core.specs.Setups.{Setup, looks_of}
@@ -25,11 +26,16 @@ IsRightOutsideDamage setup s =
 abbrev pub NoneInvalid : List Win → Type 0
 NoneInvalid ws = list_any is_invalid ws ≡ false
 
--- whether an entry may change where windows are, or what they are
+-- whether a call may change where windows are, or what they are
+abbrev pub is_window_call : Call → Bool
+is_window_call Exec = false
+is_window_call Exec1 = false
+is_window_call Scan = false
+is_window_call call = true
+
+-- whether an entry may
 abbrev pub changes_windows : Entry → Bool
-changes_windows (entry.Call actor (Create x y w h class)) = true
-changes_windows (entry.Call actor Exec) = false
-changes_windows (entry.Call actor Scan) = false
+changes_windows (entry.Call actor call) = is_window_call call
 
 -- the entries that may
 abbrev pub window_calls : List Entry → List Entry

@@ -1,25 +1,30 @@
 -- The state of the windows and the shown picture, and what each call does to it.
-use Rattle.std.specs.Prelude.{ℕ, zero, suc, ◌+◌, Bool, true, false, nat_le, if◌then◌else◌, List, [], ◌∷◌, length, Option, Some, None}
+use Rattle.std.specs.Prelude.{ℕ, ℤ, zero, suc, ◌+◌, Bool, true, false, not, ◌==◌, nat_le, if◌then◌else◌, List, [], ◌∷◌, ◌++◌, length, Option, Some, None, is_some}
+use Rattle.std.specs.List.{list_any}
+use Rattle.std.specs.Option.{option_map_or}
+use Rattle.gfx_base.specs.declared.rect.Rect.{Rect}
 use Rattle.frame.specs.Pictures.{Picture, picture_of}
 use Rattle.scene.specs.declared.win.Win.{Win}
+use Rattle.scene.specs.Places.{window_of}
+use Rattle.scene.specs.Stacks.{is_bad_size, has_ancestors}
+use Rattle.scene.specs.Families.{new_window, desktop_with, on_top_of, without_family, raised, lowered, window_changed, moved_to, resized_to, with_shown}
 use Rattle.calls.specs.declared.call.Call.{Call}
-use Rattle.calls.specs.declared.call.Call.TheVariants.{Create, Exec, Scan}
+use Rattle.calls.specs.declared.call.Call.TheVariants.{Create, Delete, MoveTo, MoveBy, Resize, Show, Hide, ToTop, ToBottom, SetClass, Invalidate, InvalidateRect, InvalidateArea, Exec, Exec1, Scan}
 use Rattle.calls.specs.declared.entry.Entry.{Entry}
 use Rattle.calls.specs.declared.entry.Entry.TheVariants as entry
 use Rattle.calls.specs.declared.reply.Reply.{Reply}
 use Rattle.calls.specs.declared.reply.Reply.TheVariants.{Done, Handle, Jobs, Refused}
 use Rattle.calls.specs.declared.reply.Refusal.{Refusal}
-use Rattle.calls.specs.declared.reply.Refusal.TheVariants.{BadSize, NoClass, TooManyWindows}
+use Rattle.calls.specs.declared.reply.Refusal.TheVariants.{NoWindow, Desktop, BadSize, TooManyWindows, TooDeep, NoClass}
 use Rattle.gui_core.specs.Setups.{Setup, screen_of}
-use Rattle.gui_core.specs.Windows.{new_child, with_window}
-use Rattle.scene.specs.Stacks.{is_bad_size}
-use Rattle.scene.specs.Families.{desktop_with}
+use Rattle.gui_core.specs.Windows.{moved_by, with_class, after_change, with_invalid_window, with_invalid_rect, with_invalid_area}
+use Rattle.invalidate.specs.Invalidation.{is_invalid}
 use Rattle.gui_core.specs.Jobs.{windows_after_job, picture_after_job, jobs_of}
 
--- the windows from back to front, the handle of the next one, and the shown picture
+-- the windows from back to front, how many handles were given out, and the shown picture
 pub record State : Type 0 where
   pub windows : List Win
-  pub next : ℕ
+  pub handles : ℕ
   pub shown : Picture
 
 -- the picture that is drawn on; with one buffer it is the shown one
@@ -33,7 +38,7 @@ with_latest s p = record s { shown = p }
 abbrev pub opening : Setup → State
 opening setup = record {
   windows = desktop_with setup.config.w setup.config.h (screen_of setup) ∷ [];
-  next = 2;
+  handles = 1;
   shown = picture_of setup.config.w setup.config.h (λ x y. 0);
 }
 
@@ -48,15 +53,45 @@ pub record Step : Type 0 where
 abbrev pub Objection : Type 0
 Objection = Bool × Refusal
 
--- what may be held against a call, in order
-abbrev pub objections : Setup → State → Call → List Objection
-objections setup s (Create x y w h class) =
-    (is_bad_size w h, BadSize)
-    ∷ (nat_le (length setup.assets.classes) class, NoClass class)
-    ∷ (nat_le 256 (length s.windows), TooManyWindows)
-    ∷ []
-objections setup s Exec = []
-objections setup s Scan = []
+-- no window has the handle
+abbrev pub no_window : List Win → ℕ → Objection
+no_window ws h = (not (is_some (window_of ws h)), NoWindow h)
+
+-- the window of the handle has the deepest level, on which it has seven ancestors
+abbrev pub too_deep : List Win → ℕ → Objection
+too_deep ws h = (option_map_or (has_ancestors 7 ws) (window_of ws h) false, TooDeep)
+
+abbrev pub bad_size : ℕ → ℕ → Objection
+bad_size w h = (is_bad_size w h, BadSize)
+
+-- there are only so many classes
+abbrev pub no_class : ℕ → ℕ → Objection
+no_class classes class = (nat_le classes class, NoClass class)
+
+-- there is no such window, or it is the desktop, which stays as it is
+abbrev pub unchangeable : List Win → ℕ → List Objection
+unchangeable ws h = no_window ws h ∷ (h == 1, Desktop) ∷ []
+
+-- what may be held against a call, in order, where there are so many classes and these windows
+abbrev pub objections : ℕ → List Win → Call → List Objection
+objections classes ws (Create parent x y w h class) =
+    no_window ws parent ∷ too_deep ws parent ∷ bad_size w h ∷ no_class classes class
+    ∷ (nat_le 256 (length ws), TooManyWindows) ∷ []
+objections classes ws (Delete h) = unchangeable ws h
+objections classes ws (MoveTo h x y) = unchangeable ws h
+objections classes ws (MoveBy h dx dy) = unchangeable ws h
+objections classes ws (Resize h width height) = unchangeable ws h ++ bad_size width height ∷ []
+objections classes ws (Show h) = unchangeable ws h
+objections classes ws (Hide h) = unchangeable ws h
+objections classes ws (ToTop h) = unchangeable ws h
+objections classes ws (ToBottom h) = unchangeable ws h
+objections classes ws (SetClass h class) = unchangeable ws h ++ no_class classes class ∷ []
+objections classes ws (Invalidate h) = no_window ws h ∷ []
+objections classes ws (InvalidateRect h x0 y0 x1 y1) = no_window ws h ∷ []
+objections classes ws (InvalidateArea x0 y0 x1 y1) = []
+objections classes ws Exec = []
+objections classes ws Exec1 = []
+objections classes ws Scan = []
 
 -- the first that holds
 abbrev pub refusal_of : List Objection → Option Refusal
@@ -70,10 +105,22 @@ unless_refused (Some refusal) s done = record { state = s; reply = Refused refus
 
 -- ---- effects
 
--- a window more
+abbrev pub with_windows : State → List Win → Step
+with_windows s ws = record { state = record s { windows = ws }; reply = Done }
+
+-- the list became another one by a call on the window that has the handle
+abbrev pub changed : Setup → State → ℕ → List Win → Step
+changed setup s h now = with_windows s (after_change (screen_of setup) h s.windows now)
+
+-- a window more, on top of its parent's children
 abbrev pub after_create : Setup → State → Win → State
 after_create setup s w =
-    record s { windows = with_window setup s.windows w; next = s.next + 1 }
+    record s {
+      windows =
+          after_change (screen_of setup) w.handle s.windows
+          (on_top_of w.parent (w ∷ []) s.windows);
+      handles = w.handle;
+    }
 
 abbrev pub created : Setup → State → Win → Step
 created setup s w = record { state = after_create setup s w; reply = Handle w.handle }
@@ -88,23 +135,44 @@ abbrev pub after_jobs : Setup → ℕ → State → State
 after_jobs setup zero s = s
 after_jobs setup (suc n) s = after_jobs setup n (after_job setup s)
 
--- painted until no window is invalid
-abbrev pub painted_out : Setup → State → Step
-painted_out setup s =
-    let jobs = jobs_of s.windows in
-    record { state = after_jobs setup jobs s; reply = Jobs jobs }
+-- so many jobs are done
+abbrev pub painted : Setup → State → ℕ → Step
+painted setup s jobs = record { state = after_jobs setup jobs s; reply = Jobs jobs }
+
+abbrev pub rect_with : ℤ → ℤ → ℤ → ℤ → Rect
+rect_with x0 y0 x1 y1 = record { x0 = x0; y0 = y0; x1 = x1; y1 = y1 }
 
 -- what a call does that isn't refused
 abbrev pub effect : Setup → State → Call → Step
-effect setup s (Create x y w h class) = created setup s (new_child s.next x y w h class)
-effect setup s Exec = painted_out setup s
+effect setup s (Create parent x y w h class) =
+    created setup s (new_window (s.handles + 1) parent x y w h class)
+effect setup s (Delete h) = changed setup s h (without_family h s.windows)
+effect setup s (MoveTo h x y) = changed setup s h (window_changed h (moved_to x y) s.windows)
+effect setup s (MoveBy h dx dy) = changed setup s h (window_changed h (moved_by dx dy) s.windows)
+effect setup s (Resize h width height) =
+    changed setup s h (window_changed h (resized_to width height) s.windows)
+effect setup s (Show h) = changed setup s h (window_changed h (with_shown true) s.windows)
+effect setup s (Hide h) = changed setup s h (window_changed h (with_shown false) s.windows)
+effect setup s (ToTop h) = changed setup s h (raised h s.windows)
+effect setup s (ToBottom h) = changed setup s h (lowered h s.windows)
+effect setup s (SetClass h class) =
+    changed setup s h (window_changed h (with_class class) s.windows)
+effect setup s (Invalidate h) =
+    with_windows s (with_invalid_window (screen_of setup) h s.windows)
+effect setup s (InvalidateRect h x0 y0 x1 y1) =
+    with_windows s (with_invalid_rect (screen_of setup) h (rect_with x0 y0 x1 y1) s.windows)
+effect setup s (InvalidateArea x0 y0 x1 y1) =
+    with_windows s (with_invalid_area (screen_of setup) (rect_with x0 y0 x1 y1) s.windows)
+effect setup s Exec = painted setup s (jobs_of s.windows)
+effect setup s Exec1 = painted setup s (if list_any is_invalid s.windows then 1 else 0)
 effect setup s Scan = record { state = s; reply = Done }
 
 -- ---- steps
 
 abbrev pub step_of_call : Setup → State → Call → Step
 step_of_call setup s call =
-    unless_refused (refusal_of (objections setup s call)) s (effect setup s call)
+    unless_refused (refusal_of (objections (length setup.assets.classes) s.windows call)) s
+    (effect setup s call)
 
 unfoldable pub step : Setup → State → Entry → Step
 step setup s (entry.Call actor call) = step_of_call setup s call

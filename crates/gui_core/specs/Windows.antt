@@ -1,18 +1,72 @@
--- Calls that change the list of windows, which stand from back to front.
-use Rattle.std.specs.Prelude.{ℕ, ℤ, List, [], ◌∷◌, ◌++◌}
+-- Calls that change the list of windows, which stand from back to front, and what each of them
+-- makes invalid.
+use Rattle.std.specs.Prelude.{ℕ, ℤ, ◌+ℤ◌, Bool, ◌&&◌, ◌==◌, if◌then◌else◌, List, [], ◌∷◌, ◌++◌, Option, Some, None, option_map}
+use Rattle.std.specs.Cmp.Lexicographic.{pointwise}
+use Rattle.std.proofs.Math.Bool.{beq}
+use Rattle.std.specs.Int.{w16, saturate_signed}
+use Rattle.std.specs.Ordering.{int_eq}
+use Rattle.gfx_base.specs.declared.rect.Rect.{Rect}
 use Rattle.scene.specs.declared.win.Win.{Win}
+use Rattle.scene.specs.Places.{window_of}
 use Rattle.scene.specs.Clips.{clip_in}
-use Rattle.scene.specs.Damage.{area_invalidated}
-use Rattle.scene.specs.Families.{new_window}
-use Rattle.gui_core.specs.Setups.{Setup, screen_of}
+use Rattle.scene.specs.Damage.{area_invalidated, areas_invalidated, invalidated}
+use Rattle.scene.specs.Families.{window_changed, moved_to}
+use Rattle.invalidate.specs.Invalidation.{wholly_invalidated, on_screen}
 
--- a new window of the desktop
-abbrev pub new_child : ℕ → ℤ → ℤ → ℕ → ℕ → ℕ → Win
-new_child handle x y w h class = new_window handle 1 x y w h class
+-- ---- one window
 
--- the windows with a new one on top, whose clip is invalid in every window
-abbrev pub with_window : Setup → List Win → Win → List Win
-with_window setup ws w =
-    let now = ws ++ w ∷ [] in
-    let clip = clip_in (screen_of setup) now in
-    area_invalidated clip (clip w) now
+-- a sum that stops at the ends of 16 bits
+abbrev pub stopped : ℤ → ℤ
+stopped z = saturate_signed w16 z
+
+abbrev pub moved_by : ℤ → ℤ → Win → Win
+moved_by dx dy w = moved_to (stopped (w.x +ℤ dx)) (stopped (w.y +ℤ dy)) w
+
+abbrev pub with_class : ℕ → Win → Win
+with_class class w = record w { class = class }
+
+-- ---- what is as it was
+
+-- whether the second window is the first one in the same place of its parent, of the same sides and
+-- class, and shown or hidden as before
+abbrev pub is_as_it_was : Win → Win → Bool
+is_as_it_was w v =
+    (w.handle == v.handle && w.class == v.class) && (int_eq w.x v.x && int_eq w.y v.y)
+    && ((w.w == v.w && w.h == v.h) && beq w.shown v.shown)
+
+-- whether the list is as it was
+abbrev pub are_as_they_were : List Win → List Win → Bool
+are_as_they_were ws now = pointwise is_as_it_was ws now
+
+-- ---- what is invalid then
+
+-- the clip of the window that has the handle, if there is one
+abbrev pub clip_at : Rect → List Win → ℕ → Option Rect
+clip_at screen ws h = option_map (clip_in screen ws) (window_of ws h)
+
+-- the one of an option, or none
+abbrev pub listed : Option Rect → List Rect
+listed None = []
+listed (Some r) = r ∷ []
+
+-- The list after a call on the window that has the handle, which was the first list and is the
+-- second: in each window is invalid where that window was, and where it is now. Nothing is, where
+-- the list is as it was.
+abbrev pub after_change : Rect → ℕ → List Win → List Win → List Win
+after_change screen h ws now =
+    if are_as_they_were ws now then now
+    else areas_invalidated (clip_in screen now)
+    (listed (clip_at screen ws h) ++ listed (clip_at screen now h)) now
+
+-- the list with all of a window invalid
+abbrev pub with_invalid_window : Rect → ℕ → List Win → List Win
+with_invalid_window screen h ws = window_changed h (wholly_invalidated screen ws) ws
+
+-- the list with a rectangle of a window invalid, which is told from the window's corner
+abbrev pub with_invalid_rect : Rect → ℕ → Rect → List Win → List Win
+with_invalid_rect screen h local ws =
+    window_changed h (λ w. invalidated (clip_in screen ws w) (on_screen ws w local) w) ws
+
+-- the list with an area of the screen invalid in each window
+abbrev pub with_invalid_area : Rect → Rect → List Win → List Win
+with_invalid_area screen area ws = area_invalidated (clip_in screen ws) area ws

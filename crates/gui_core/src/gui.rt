@@ -1,17 +1,17 @@
-ghost use Rattle.std.specs.Prelude.{◌≡◌, ◌<◌, ◌≤◌, true, length, IfOk};
+ghost use Rattle.std.specs.Prelude.{◌≡◌, ◌+◌, ◌<◌, ◌≤◌, true, length, IfOk};
+ghost use Rattle.std.specs.List.{AllByRecursion};
 ghost use Rattle.paint_ops.specs.Soundness.{IsSound};
 ghost use Rattle.calls.specs.Actors.{fits};
 
-use crate::jobs::make_valid;
-use crate::refusals::is_bad_size;
-use crate::windows::{DESKTOP, child, desktop};
+use crate::change::Change;
+use crate::windows::{NewWindow, Windows};
 use calls::{Call, Config, Refusal, Reply};
 use exec_paint::job;
 use frame::Frame;
-use gfx_base::Memory;
-use invalidate::{area, first_invalid};
+use gfx_base::{Memory, Rect};
+use invalidate::first_invalid;
 use paint_ops::{Assets, Class};
-use scene::{MOST_WINDOWS, Stack, Win, ground, paint_whole, screen};
+use scene::{Stack, paint_whole, screen};
 use std::alloc::Global;
 use std::marker::Model;
 
@@ -20,9 +20,7 @@ use std::marker::Model;
 pub struct Gui {
     config: Config,
     assets: Assets,
-    windows: Stack,
-    /// The handle of the next window.
-    next: u32,
+    windows: Windows,
     shown: Frame,
     /// What windows compose in before they show. None does so far, so one point is enough.
     device: Frame,
@@ -37,14 +35,22 @@ impl Model for Gui {
 
     ghost view = { λ g. record {
       setup = record { config = g.config; assets = g.assets };
-      state = record { windows = g.windows.items; next = g.next; shown = g.shown.picture };
+      state = record {
+        windows = g.windows.windows;
+        handles = g.windows.handles;
+        shown = g.shown.picture;
+      };
       made = g.made;
       refused = g.refused;
     } };
 
     ghost invariant = { λ g. IsKept (record {
       setup = record { config = g.config; assets = g.assets };
-      state = record { windows = g.windows.items; next = g.next; shown = g.shown.picture };
+      state = record {
+        windows = g.windows.windows;
+        handles = g.windows.handles;
+        shown = g.shown.picture;
+      };
       made = g.made;
       refused = g.refused;
     }) };
@@ -64,15 +70,35 @@ fn with_desktop(alloc: Global, mut assets: Assets, config: &Config) -> Assets
 }
 
 ghost use Rattle.gui_core.specs.Setups.{assets_with_desktop};
+ghost use Rattle.gui_core.specs.Refusals.{answered};
+
+/// How many classes there are, with the desktop's.
+fn class_count(assets: &Assets) -> usize
+    ensures { result ≡ length assets.now.classes }
+{
+    assets.classes.len()
+}
+
+/// The reply to a call that gives nothing.
+fn answered(answer: Result<(), Refusal>) -> Reply
+    ensures { result ≡ answered answer }
+{
+    match answer {
+        Ok(()) => Reply::Done,
+        Err(refusal) => Reply::Refused(refusal),
+    }
+}
 
 impl Gui {
-    ghost use Rattle.std.specs.Prelude.{ℤ, Some, position};
-    ghost use Rattle.scene.specs.Looks.{IsPaintable};
+    ghost use Rattle.std.specs.Prelude.{if◌then◌else◌, Some, position};
+    ghost use Rattle.std.specs.List.{list_any};
     ghost use Rattle.gui_core.specs.Setups.{painter};
     ghost use Rattle.invalidate.specs.Invalidation.{is_invalid};
+    ghost use Rattle.calls.specs.declared.call.Call.TheVariants.{Create};
     ghost use Rattle.gui_core.specs.Jobs.{jobs_of};
-    ghost use Rattle.gui_core.specs.States.{after_create, after_job, after_jobs, refusal_of, objections};
-    ghost use Rattle.gui_core.specs.Machines.{IsConfig, Takes, Answers, starting, counted};
+    ghost use Rattle.gui_core.specs.Changes.{call_for};
+    ghost use Rattle.gui_core.specs.States.{after_job, after_jobs, is_refused};
+    ghost use Rattle.gui_core.specs.Machines.{IsConfig, Takes, Answers, starting};
 
     /// The desktop alone, which waits to be painted, on a black picture. What windows paint with is
     /// sound and has a class 0, in whose place comes the desktop's: the configuration's colour
@@ -86,14 +112,12 @@ impl Gui {
     {
         let shown = Frame::new(alloc, config.w, config.h)?;
         let device = Frame::new(alloc, 1, 1)?;
-        let mut windows = Stack::new();
-        windows.push(desktop(config.w, config.h, screen(config.w, config.h)));
+        let windows = Windows::open(alloc, config.w, config.h)?;
         let assets = with_desktop(alloc, assets, &config);
         Ok(Gui {
             config,
             assets,
             windows,
-            next: DESKTOP + 1,
             shown,
             device,
             made: 0,
@@ -114,7 +138,7 @@ impl Gui {
     {
         out.clear();
         // Both hold as many, so this can't fail.
-        let copied = out.try_extend_from_slice(&self.windows).is_ok();
+        let copied = out.try_extend_from_slice(self.windows.stack()).is_ok();
         prove!(copied);
     }
 
@@ -140,13 +164,12 @@ impl Gui {
             config: _,
             assets,
             windows,
-            next: _,
             mut shown,
             device: _,
             made: _,
             refused: _,
         } = self;
-        paint_whole(&windows, &assets, &mut shown);
+        paint_whole(windows.stack(), &assets, &mut shown);
         shown
     }
 
@@ -155,7 +178,7 @@ impl Gui {
         ensures next { result ≡ position is_invalid self.now.state.windows }
         ensures few { length self.now.state.windows ≤ 256 }
     {
-        first_invalid(&self.windows)
+        first_invalid(self.windows.stack())
     }
 
     fn do_job(&mut self, which: usize)
@@ -163,13 +186,13 @@ impl Gui {
         ensures { self.new ≡ record self.old { state = after_job self.old.setup self.old.state } }
     {
         let _ = job(
-            &self.windows,
+            self.windows.stack(),
             which,
             &self.assets,
             &mut self.device,
             &mut self.shown,
         );
-        make_valid(self.windows.as_mut_slice(), which);
+        self.windows.make_valid(which);
     }
 
     /// Paints until no window waits for it, and tells how many jobs that took.
@@ -189,67 +212,108 @@ impl Gui {
         jobs
     }
 
-    fn create_refusal(&self, w: u16, h: u16, class: u8) -> Option<Refusal>
-        ensures { (x y : ℤ)
-            → result ≡ refusal_of
-            (objections self.now.setup self.now.state (Call.Create x y w h class)) }
+    /// Does the first job, if there is one, and tells how many that were.
+    fn exec1(&mut self) -> u16
+        ensures jobs { result ≡ (if list_any is_invalid self.old.state.windows then 1 else 0) }
+        ensures state { self.new
+            ≡ record self.old { state = after_jobs self.old.setup result self.old.state } }
     {
-        if is_bad_size(w, h) {
-            return Some(Refusal::BadSize);
+        match self.next_job() {
+            Some(which) => {
+                self.do_job(which);
+                1
+            }
+            None => 0,
         }
-        if usize::from(class) >= self.assets.classes.len() {
-            return Some(Refusal::NoClass(class));
-        }
-        if self.windows.len() >= MOST_WINDOWS {
-            return Some(Refusal::TooManyWindows);
-        }
-        None
     }
 
-    /// Puts a window on top, and its clip rectangle waits to be painted in every window.
-    fn add(&mut self, window: Win)
-        requires room { length self.old.state.windows < 256 }
-        requires handle { window.handle ≡ self.old.state.next }
-        requires paintable { IsPaintable self.old.setup.assets window }
-        ensures { self.new
-            ≡ record self.old { state = after_create self.old.setup self.old.state window } }
+    fn create(&mut self, new: &NewWindow) -> Reply
+        requires { self.old.state.handles ≤ self.old.made }
+        ensures { let n = new.now in
+            Takes self.old (Create n.parent n.x n.y n.w n.h n.class) self.new result }
     {
-        self.windows.push(window);
         let screen = screen(self.config.w, self.config.h);
-        let clip = ground(&self.windows, self.windows.len() - 1, &screen);
-        area(self.windows.as_mut_slice(), &clip, &screen);
-        self.next += 1;
-    }
-
-    fn create(&mut self, x: i16, y: i16, w: u16, h: u16, class: u8) -> Reply
-        ensures { Takes self.old (Call.Create x y w h class) self.new result }
-    {
-        if let Some(refusal) = self.create_refusal(w, h, class) {
-            return Reply::Refused(refusal);
+        match self.windows.create(new, class_count(&self.assets), &screen) {
+            Ok(handle) => Reply::Handle(handle),
+            Err(refusal) => Reply::Refused(refusal),
         }
-        let handle = self.next;
-        self.add(child(handle, x, y, w, h, class));
-        Reply::Handle(handle)
     }
 
+    fn change(&mut self, h: u32, change: Change) -> Reply
+        ensures { Takes self.old (call_for h change) self.new result }
+    {
+        let screen = screen(self.config.w, self.config.h);
+        answered(
+            self.windows
+                .change(h, change, class_count(&self.assets), &screen),
+        )
+    }
+
+    fn invalidate(&mut self, h: u32) -> Reply
+        ensures { Takes self.old (Call.Invalidate h) self.new result }
+    {
+        let screen = screen(self.config.w, self.config.h);
+        answered(self.windows.invalidate(h, &screen))
+    }
+
+    fn invalidate_rect(&mut self, h: u32, local: &Rect) -> Reply
+        requires { IsLocal local.now }
+        ensures { let r = local.now in
+            Takes self.old (Call.InvalidateRect h r.x0 r.y0 r.x1 r.y1) self.new result }
+    {
+        let screen = screen(self.config.w, self.config.h);
+        answered(self.windows.invalidate_rect(h, local, &screen))
+    }
+
+    fn invalidate_area(&mut self, area: &Rect) -> Reply
+        ensures { let r = area.now in
+            Takes self.old (Call.InvalidateArea r.x0 r.y0 r.x1 r.y1) self.new result }
+    {
+        let screen = screen(self.config.w, self.config.h);
+        self.windows.invalidate_area(area, &screen);
+        Reply::Done
+    }
+
+    /// Makes a call that is counted already.
     fn take(&mut self, call: &Call) -> Reply
+        requires { self.old.state.handles ≤ self.old.made }
         ensures { Takes self.old call.now self.new result }
     {
         match *call {
-            Call::Create { x, y, w, h, class } => self.create(x, y, w, h, class),
+            Call::Create {
+                parent,
+                x,
+                y,
+                w,
+                h,
+                class,
+            } => self.create(&NewWindow {
+                parent,
+                x,
+                y,
+                w,
+                h,
+                class,
+            }),
+            Call::Delete { h } => self.change(h, Change::Delete),
+            Call::MoveTo { h, x, y } => self.change(h, Change::MoveTo { x, y }),
+            Call::MoveBy { h, dx, dy } => self.change(h, Change::MoveBy { dx, dy }),
+            Call::Resize { h, width, height } => self.change(h, Change::Resize { width, height }),
+            Call::Show { h } => self.change(h, Change::Show),
+            Call::Hide { h } => self.change(h, Change::Hide),
+            Call::ToTop { h } => self.change(h, Change::ToTop),
+            Call::ToBottom { h } => self.change(h, Change::ToBottom),
+            Call::SetClass { h, class } => self.change(h, Change::SetClass { class }),
+            Call::Invalidate { h } => self.invalidate(h),
+            Call::InvalidateRect { h, x0, y0, x1, y1 } => {
+                self.invalidate_rect(h, &local_rect(x0, y0, x1, y1))
+            }
+            Call::InvalidateArea { x0, y0, x1, y1 } => {
+                self.invalidate_area(&local_rect(x0, y0, x1, y1))
+            }
             Call::Exec => Reply::Jobs(self.exec()),
+            Call::Exec1 => Reply::Jobs(self.exec1()),
             Call::Scan => Reply::Done,
-        }
-    }
-
-    /// Counts a call.
-    fn count(&mut self, reply: &Reply)
-        requires { self.old.made < self.old.setup.config.calls }
-        ensures { self.new ≡ counted reply.now self.old }
-    {
-        self.made += 1;
-        if let Reply::Refused(_) = reply {
-            self.refused += 1;
         }
     }
 
@@ -262,8 +326,27 @@ impl Gui {
         ensures answers { Answers self.old actor call.now self.new result }
         ensures bytes { _room.new ≡ _room.old }
     {
+        self.made += 1;
         let reply = self.take(call);
-        self.count(&reply);
+        if let Reply::Refused(_) = reply {
+            self.refused += 1;
+        }
         reply
+    }
+}
+
+ghost use Rattle.gui_core.specs.States.{rect_with};
+ghost use Rattle.invalidate.specs.Invalidation.{IsLocal};
+
+/// The rectangle with these corners.
+fn local_rect(x0: i16, y0: i16, x1: i16, y1: i16) -> Rect
+    ensures value { result ≡ rect_with x0 y0 x1 y1 }
+    ensures local { IsLocal result }
+{
+    Rect {
+        x0: i32::from(x0),
+        y0: i32::from(y0),
+        x1: i32::from(x1),
+        y1: i32::from(y1),
     }
 }

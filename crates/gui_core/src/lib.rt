@@ -2,6 +2,7 @@
 //! taken at opening.
 #![tactic(auto)]
 
+mod change;
 mod gui;
 mod jobs;
 pub mod laws;

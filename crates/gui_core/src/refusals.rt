@@ -1,14 +1,42 @@
-//! Why calls are refused.
+//! Why calls on windows are refused.
 
-ghost use Rattle.std.specs.Prelude.{◌≡◌};
-ghost use Rattle.scene.specs.Stacks.{is_bad_size};
+ghost use Rattle.std.specs.Prelude.{◌≡◌, ℤ};
+ghost use Rattle.calls.specs.declared.call.Call.TheVariants.{Create};
+ghost use Rattle.gui_core.specs.Refusals.{refusal_for};
+ghost use Rattle.gui_core.specs.States.{refusal_of, objections};
 
-/// The greatest side of a window, in points.
-const MOST_SIDE: u16 = 4096;
+use calls::Refusal;
+use win_tree::{Tree, TreeRefused};
 
-/// Whether a window can't have these sides.
-pub fn is_bad_size(w: u16, h: u16) -> bool
-    ensures { result ≡ is_bad_size w h }
+/// The core's refusal for the tree's.
+pub fn refusal_for(refused: TreeRefused) -> Refusal
+    ensures { result ≡ refusal_for refused }
 {
-    w == 0 || h == 0 || w > MOST_SIDE || h > MOST_SIDE
+    match refused {
+        TreeRefused::NoWindow(h) => Refusal::NoWindow(h),
+        TreeRefused::Desktop => Refusal::Desktop,
+        TreeRefused::BadSize => Refusal::BadSize,
+        TreeRefused::TooManyWindows => Refusal::TooManyWindows,
+        TreeRefused::TooDeep => Refusal::TooDeep,
+    }
+}
+
+/// Why a window can't be made, where there are so many classes. The number of windows counts last.
+pub fn refusal_of_create(
+    tree: &Tree,
+    parent: u32,
+    w: u16,
+    h: u16,
+    class: u8,
+    classes: usize,
+) -> Option<Refusal>
+    ensures { (x y : ℤ) → result
+        ≡ refusal_of (objections classes tree.now.windows (Create parent x y w h class)) }
+{
+    let is_known = usize::from(class) < classes;
+    match tree.refusal_of_create(parent, w, h) {
+        None | Some(TreeRefused::TooManyWindows) if !is_known => Some(Refusal::NoClass(class)),
+        Some(refused) => Some(refusal_for(refused)),
+        None => None,
+    }
 }

@@ -3,9 +3,9 @@ use Rattle.std.specs.Prelude.{ℕ, ◌+◌, List, [], ◌∷◌, ◌++◌, map, 
 use Rattle.std.specs.List.{join_with_byte}
 use Rattle.spelling.specs.Digits.{hex_colour}
 use Rattle.calls.specs.declared.call.Call.{Call}
-use Rattle.calls.specs.declared.call.Call.TheVariants.{Create, Exec, Scan}
+use Rattle.calls.specs.declared.call.Call.TheVariants.{Scan}
 use Rattle.calls.specs.declared.reply.Refusal.{Refusal}
-use Rattle.calls.specs.declared.reply.Refusal.TheVariants.{BadSize, NoClass, TooManyWindows}
+use Rattle.calls.specs.declared.reply.Refusal.TheVariants.{NoWindow, Desktop, BadSize, TooManyWindows, TooDeep, NoClass}
 use Rattle.calls.specs.declared.reply.Reply.{Reply}
 use Rattle.calls.specs.declared.reply.Reply.TheVariants.{Done, Handle, Jobs, Refused}
 use Rattle.frame.specs.Pictures.{Picture, rows_of}
@@ -50,15 +50,17 @@ frame_text p = frame_header p ++ row_lines None (rows_of p)
 
 -- the line that refuses a call
 abbrev pub refusal_text : Refusal → List ℕ
+refusal_text (NoWindow handle) = codes "refused NoWindow " ++ decimal handle ++ codes "\n"
+refusal_text Desktop = codes "refused Desktop\n"
 refusal_text BadSize = codes "refused BadSize\n"
-refusal_text (NoClass class) = codes "refused NoClass " ++ decimal class ++ codes "\n"
 refusal_text TooManyWindows = codes "refused TooManyWindows\n"
+refusal_text TooDeep = codes "refused TooDeep\n"
+refusal_text (NoClass class) = codes "refused NoClass " ++ decimal class ++ codes "\n"
 
 -- the answer where a call is done: a scan's is the shown picture
 abbrev pub done_text : Call → Picture → List ℕ
-done_text (Create x y w h class) shown = codes "ok\n"
-done_text Exec shown = codes "ok\n"
 done_text Scan shown = frame_text shown
+done_text call shown = codes "ok\n"
 
 -- the answer to a call, after which that picture is shown
 abbrev pub reply_text : Call → Reply → Picture → List ℕ

@@ -13,7 +13,7 @@ pub fn texts_in_numbers()
     ensures row { points_line mixed_row ≡ codes "000001*12 FFFFFF 000001 000000*2\n" }
     ensures picture { frame_text striped
         ≡ codes "frame 8 4\n000000*8\n000000*2 0000FF*3 000000*3\n=\n000000*8\n" }
-    ensures handle { reply_text (Call.Create (pos 1) (pos 2) 3 4 5) (Reply.Handle 70000) single
+    ensures handle { reply_text (Call.Create 1 (pos 1) (pos 2) 3 4 5) (Reply.Handle 70000) single
         ≡ codes "ok 70000\n" }
     ensures jobs { reply_text Call.Exec (Reply.Jobs 3) single ≡ codes "ok 3\n" }
     ensures done { reply_text Call.Exec Reply.Done single ≡ codes "ok\n" }
@@ -22,6 +22,8 @@ pub fn texts_in_numbers()
         ≡ codes "refused BadSize\n" }
     ensures class { reply_text Call.Exec (Reply.Refused (Refusal.NoClass 9)) single
         ≡ codes "refused NoClass 9\n" }
+    ensures window { reply_text Call.Exec (Reply.Refused (Refusal.NoWindow 70000)) single
+        ≡ codes "refused NoWindow 70000\n" }
     ensures many { reply_text Call.Exec (Reply.Refused Refusal.TooManyWindows) single
         ≡ codes "refused TooManyWindows\n" }
     ensures summary { summary_text 50 1 22 3

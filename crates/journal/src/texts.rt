@@ -104,9 +104,12 @@ fn write_refusal<K: Sink>(out: &mut K, refusal: &Refusal) -> Result<(), SinkFaul
     ensures { Wrote result (K.log out.old) (K.log out.new) (refusal_text refusal.now) }
 {
     match refusal {
+        Refusal::NoWindow(handle) => write_number(out, b"refused NoWindow ", *handle),
+        Refusal::Desktop => out.write(b"refused Desktop\n"),
         Refusal::BadSize => out.write(b"refused BadSize\n"),
-        Refusal::NoClass(class) => write_number(out, b"refused NoClass ", *class),
         Refusal::TooManyWindows => out.write(b"refused TooManyWindows\n"),
+        Refusal::TooDeep => out.write(b"refused TooDeep\n"),
+        Refusal::NoClass(class) => write_number(out, b"refused NoClass ", *class),
     }
 }
 
@@ -114,8 +117,8 @@ fn write_done<K: Sink>(out: &mut K, call: &Call, shown: &Frame) -> Result<(), Si
     ensures { Wrote result (K.log out.old) (K.log out.new) (done_text call.now shown.now.picture) }
 {
     match call {
-        Call::Create { .. } | Call::Exec => out.write(b"ok\n"),
         Call::Scan => write_frame(out, shown),
+        _ => out.write(b"ok\n"),
     }
 }
 

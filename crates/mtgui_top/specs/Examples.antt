@@ -10,7 +10,7 @@ first_script = script_for (record {
   width = 8;
   height = 4;
   classes = 0 ∷ 255 ∷ [];
-  lines = by_task_1 (Create (pos 2) (pos 1) 3 2 1) ∷ by_task_1 Exec ∷ by_task_1 Scan ∷ [];
+  lines = by_task_1 (Create 1 (pos 2) (pos 1) 3 2 1) ∷ by_task_1 Exec ∷ by_task_1 Scan ∷ [];
 })
 
 -- two windows are refused

@@ -138,8 +138,8 @@ fn changes_windows(line: &Line) -> bool
         ..
     } = line;
     match call {
-        Call::Create { .. } => true,
-        Call::Exec | Call::Scan => false,
+        Call::Exec | Call::Exec1 | Call::Scan => false,
+        _ => true,
     }
 }
 

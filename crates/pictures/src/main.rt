@@ -14,7 +14,10 @@ const HEADER: &str = "mtgui 1\nscreen 24 16\nbuffers 1\ndesktop 000000\nclass 1 
     class 2 00FF00\nend\nclass 3 FF0000\nend\nclass 4 FFFFFF\nend\n";
 
 /// How many calls a script has before its last two.
-const CALLS: u16 = 24;
+const CALLS: u16 = 60;
+
+/// The handles that calls name: from 1 to one less, so that some of them name no window.
+const HANDLES: u16 = 14;
 
 /// Room for what a command writes of a script.
 const ROOM: usize = 20_000;
@@ -36,18 +39,62 @@ impl Numbers {
     }
 }
 
-/// Adds a call: one in four paints, and the others make a window, which may lie off the screen, be
-/// refused for its size, or for its class.
-fn add_call(numbers: &mut Numbers, script: &mut String) -> Result<(), AllocError> {
-    if numbers.below(4) == 0 {
-        return script.push_str("1 exec\n");
-    }
+/// A place in a parent, which may lie off the screen.
+fn place(numbers: &mut Numbers) -> (i32, i32) {
     let x = i32::from(numbers.below(36)) - 12;
     let y = i32::from(numbers.below(26)) - 10;
+    (x, y)
+}
+
+/// Adds a call that makes a window, which may be refused for each of the reasons.
+fn add_create(numbers: &mut Numbers, script: &mut String) -> Result<(), AllocError> {
+    let parent = if numbers.below(3) == 0 {
+        1
+    } else {
+        numbers.below(HANDLES)
+    };
+    let (x, y) = place(numbers);
     let w = numbers.below(16);
     let h = numbers.below(12);
     let class = numbers.below(6);
-    writeln!(script, "1 create 1 {x} {y} {w} {h} {class}")
+    writeln!(script, "1 create {parent} {x} {y} {w} {h} {class}")
+}
+
+/// Adds a call on a window of this handle, which may be refused too.
+fn add_change(numbers: &mut Numbers, script: &mut String, h: u16) -> Result<(), AllocError> {
+    let (x, y) = place(numbers);
+    let w = numbers.below(16);
+    match numbers.below(11) {
+        0 => writeln!(script, "1 delete {h}"),
+        1 => writeln!(script, "1 move_to {h} {x} {y}"),
+        2 => writeln!(script, "1 move_by {h} {x} {y}"),
+        3 => writeln!(script, "1 resize {h} {w} 7"),
+        4 => writeln!(script, "1 show {h}"),
+        5 => writeln!(script, "1 hide {h}"),
+        6 => writeln!(script, "1 to_top {h}"),
+        7 => writeln!(script, "1 to_bottom {h}"),
+        8 => writeln!(script, "1 set_class {h} {w}"),
+        9 => writeln!(script, "1 invalidate {h}"),
+        _ => writeln!(script, "1 invalidate_rect {h} {x} {y} {w} 9"),
+    }
+}
+
+/// Adds a call: one in eight paints, some do one job, some make an area invalid, and the others
+/// make or change a window.
+fn add_call(numbers: &mut Numbers, script: &mut String) -> Result<(), AllocError> {
+    match numbers.below(8) {
+        0 => script.push_str("1 exec\n"),
+        1 => script.push_str("1 exec1\n"),
+        2 => {
+            let (x, y) = place(numbers);
+            writeln!(script, "1 invalidate_area {x} {y} 9 9")
+        }
+        3 | 4 => add_create(numbers, script),
+        _ => {
+            let h = numbers.below(HANDLES);
+            add_change(numbers, script, h)
+        }
+    }
 }
 
 /// A script that paints at its end, and shows the picture.

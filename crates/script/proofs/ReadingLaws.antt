@@ -13,7 +13,6 @@ use Rattle.spelling.specs.LineReading.{run, IsReading}
 use Rattle.spelling.proofs.CallerLemmas as lines
 use Rattle.spelling.proofs.CallerLemmas.{chosen}
 use Rattle.calls.specs.Actors.{is_task}
-use Rattle.calls.specs.declared.call.Call.TheVariants as call
 use Rattle.calls.specs.declared.line.Act.TheVariants as act
 use Rattle.calls.specs.declared.line.Line.{Line}
 use Rattle.calls.specs.declared.line.Line.TheVariants.{Task}
@@ -162,7 +161,6 @@ task_fits : (task : ℕ) → 1 ≤ task → task ≤ 16 → is_task task ≡ tru
 task_fits task some few = grind (arith, nat_tests)
 
 line_fits : (line : Line) → LineFits line → FitsItsTask line
-line_fits (Task task (act.Call call.Exec)) fits = task_fits task fits.0 fits.1
 line_fits (Task task (act.Call c)) fits = task_fits task fits.0 fits.1
 
 lines_fit : (ls : List Line) → AllByRecursion LineFits ls → AllByRecursion FitsItsTask ls

@@ -18,7 +18,7 @@ small_listing = record {
   height = 1;
   classes = 0 ∷ 255 ∷ [];
   lines =
-      by_task_1 (Create (pos 0) (pos 0) 0 1 1) ∷ by_task_1 (Create (pos 0) (pos 0) 1 1 7)
+      by_task_1 (Create 1 (pos 0) (pos 0) 0 1 1) ∷ by_task_1 (Create 1 (pos 0) (pos 0) 1 1 7)
       ∷ by_task_1 Exec ∷ [];
 }
 
@@ -26,8 +26,8 @@ small_listing = record {
 abbrev pub small_items : List Item
 small_items =
     Title ∷ Screen 2 1 ∷ Buffers ∷ Desktop 0 ∷ ClassOf 255
-    ∷ CallOf (by_task_1 (Create (pos 0) (pos 0) 0 1 1))
-    ∷ CallOf (by_task_1 (Create (pos 0) (pos 0) 1 1 7)) ∷ CallOf (by_task_1 Exec) ∷ []
+    ∷ CallOf (by_task_1 (Create 1 (pos 0) (pos 0) 0 1 1))
+    ∷ CallOf (by_task_1 (Create 1 (pos 0) (pos 0) 1 1 7)) ∷ CallOf (by_task_1 Exec) ∷ []
 
 -- the lines of that script's file, with comments
 abbrev pub small_lines : List (List ℕ)

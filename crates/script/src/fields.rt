@@ -60,17 +60,54 @@ fn call_with(word: Word, args: &mut Args) -> Option<Call>
         (call_with word (left args.old.rest)) }
 {
     match word {
-        Word::Create => {
-            args.natural(1, 1)?;
-            Some(Call::Create {
-                x: args.number()?,
-                y: args.number()?,
-                w: args.side()?,
-                h: args.side()?,
-                class: args.byte()?,
-            })
-        }
+        Word::Create => Some(Call::Create {
+            parent: args.handle()?,
+            x: args.number()?,
+            y: args.number()?,
+            w: args.side()?,
+            h: args.side()?,
+            class: args.byte()?,
+        }),
+        Word::Delete => Some(Call::Delete { h: args.handle()? }),
+        Word::MoveTo => Some(Call::MoveTo {
+            h: args.handle()?,
+            x: args.number()?,
+            y: args.number()?,
+        }),
+        Word::MoveBy => Some(Call::MoveBy {
+            h: args.handle()?,
+            dx: args.number()?,
+            dy: args.number()?,
+        }),
+        Word::Resize => Some(Call::Resize {
+            h: args.handle()?,
+            width: args.side()?,
+            height: args.side()?,
+        }),
+        Word::Show => Some(Call::Show { h: args.handle()? }),
+        Word::Hide => Some(Call::Hide { h: args.handle()? }),
+        Word::ToTop => Some(Call::ToTop { h: args.handle()? }),
+        Word::ToBottom => Some(Call::ToBottom { h: args.handle()? }),
+        Word::SetClass => Some(Call::SetClass {
+            h: args.handle()?,
+            class: args.byte()?,
+        }),
+        Word::Invalidate => Some(Call::Invalidate { h: args.handle()? }),
+        Word::InvalidateRect => Some(Call::InvalidateRect {
+            h: args.handle()?,
+            x0: args.number()?,
+            y0: args.number()?,
+            x1: args.number()?,
+            y1: args.number()?,
+        }),
+        Word::InvalidateArea => Some(Call::InvalidateArea {
+            x0: args.number()?,
+            y0: args.number()?,
+            x1: args.number()?,
+            y1: args.number()?,
+        }),
         Word::Exec => Some(Call::Exec),
+        Word::Exec1 => Some(Call::Exec1),
         Word::Scan => Some(Call::Scan),
     }
 }

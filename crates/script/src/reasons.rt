@@ -16,10 +16,8 @@ const LATER_IN_BLOCK: &[u8] = b"fill frame hline vline line bitmap text number o
 
 /// Second words, after a task.
 const LATER_CALLS: &[u8] =
-    b"delete move_to move_by resize show hide to_top to_bottom set_class set_trans set_memdev \
-    set_value send invalidate invalidate_rect invalidate_area select colour bk_colour text_mode \
-    font save restore fill frame line bitmap text dev_create dev_delete dev_select dev_copy begin \
-    end exec1 lock unlock";
+    b"set_trans set_memdev set_value send select colour bk_colour text_mode font save restore fill \
+    frame line bitmap text dev_create dev_delete dev_select dev_copy begin end lock unlock";
 
 /// Whether the word is one of those in the text.
 #[tactic(auto, unfolding(crate::specs::Later::is_one_of))]
@@ -45,13 +43,7 @@ fn is_later_call(rest: Option<&[u8]>) -> bool
 {
     match word_at(rest) {
         None => false,
-        Some((word, rest)) => {
-            if word == b"create".as_slice() {
-                !begins_with(b"1", rest)
-            } else {
-                is_one_of(LATER_CALLS, word)
-            }
-        }
+        Some((word, _)) => is_one_of(LATER_CALLS, word),
     }
 }
 

@@ -30,6 +30,7 @@ fn is_commented(script: &Script) -> bool {
         calls: 3,
     };
     let create = Call::Create {
+        parent: 1,
         x: -2,
         y: 1,
         w: 3,
@@ -52,6 +53,68 @@ fn a_script_with_comments(rt: HostRuntime) {
     let script = read(rt.alloc(), COMMENTED).expect(&rt, "a script");
     assert!(rt; is_commented(&script));
     assert!(rt; has_backs(&script, &[0x03_0201, 0x0A_00FF]));
+}
+
+/// A line for each word that names a call.
+const EACH_CALL: &str = "mtgui 1\nscreen 8 4\nbuffers 1\ndesktop 000000\n\
+    1 create 1 -2 1 3 0 255\n2 delete 4294967295\n3 move_to 2 -32768 32767\n\
+    4 move_by 3 -1 1\n5 resize 4 0 65535\n6 show 5\n7 hide 6\n8 to_top 7\n9 to_bottom 8\n\
+    10 set_class 9 1\n11 invalidate 10\n12 invalidate_rect 11 1 2 3 4\n\
+    13 invalidate_area -1 -2 3 4\n14 exec\n15 exec1\n16 scan\n";
+
+#[test]
+fn each_word_is_its_call(rt: HostRuntime) {
+    let script = read(rt.alloc(), EACH_CALL.as_bytes()).expect(&rt, "a script");
+    let calls = [
+        Call::Create {
+            parent: 1,
+            x: -2,
+            y: 1,
+            w: 3,
+            h: 0,
+            class: 255,
+        },
+        Call::Delete { h: u32::MAX },
+        Call::MoveTo {
+            h: 2,
+            x: i16::MIN,
+            y: i16::MAX,
+        },
+        Call::MoveBy { h: 3, dx: -1, dy: 1 },
+        Call::Resize {
+            h: 4,
+            width: 0,
+            height: u16::MAX,
+        },
+        Call::Show { h: 5 },
+        Call::Hide { h: 6 },
+        Call::ToTop { h: 7 },
+        Call::ToBottom { h: 8 },
+        Call::SetClass { h: 9, class: 1 },
+        Call::Invalidate { h: 10 },
+        Call::InvalidateRect {
+            h: 11,
+            x0: 1,
+            y0: 2,
+            x1: 3,
+            y1: 4,
+        },
+        Call::InvalidateArea {
+            x0: -1,
+            y0: -2,
+            x1: 3,
+            y1: 4,
+        },
+        Call::Exec,
+        Call::Exec1,
+        Call::Scan,
+    ];
+    let mut task = 0u16;
+    for (read, call) in script.lines.iter().zip(&calls) {
+        task = task.wrapping_add(1);
+        assert!(rt; *read == line(task, *call), "task {task}");
+    }
+    assert_eq!(rt; script.lines.len(), calls.len());
 }
 
 /// Texts of the least and the greatest numbers, with the screen's sides, the desktop's colour and
@@ -298,7 +361,7 @@ fn a_script_has_at_most_63_classes(rt: HostRuntime) {
 }
 
 /// The line and the reason of the first fault, and the lines after the header, which `|` parts.
-const CALL_FAULTS: [(u32, Reason, &str); 6] = [
+const CALL_FAULTS: [(u32, Reason, &str); 7] = [
     // The task, and the form of a line.
     (
         5,
@@ -317,14 +380,23 @@ const CALL_FAULTS: [(u32, Reason, &str); 6] = [
         |1 create 1 0 0 1 65536 0\n|1 create 1 0 0 1 -1 0\n|1 create 1 0 0 1 1 256\n\
         |1 create 1 0 0 1 1 -1\n|1 create 1 -0 0 1 1 0\n|1 create 1 +1 0 1 1 0\n\
         |1 create 1 00 0 1 1 0\n|1 create 1 0 0 1 1\n|1 create 1 0 0 1 1 0 0\n\
-        |1 create 1 0 0 1 1 0 \n",
+        |1 create 1 0 0 1 1 0 \n|1 create\n|1 create 01 0 0 1 1 0\n|1 create -1 0 0 1 1 0\n\
+        |1 create 4294967296 0 0 1 1 0\n",
+    ),
+    (
+        5,
+        Reason::Call,
+        "1 delete\n|1 delete x\n|1 delete 2 3\n|1 move_to 2 0\n|1 move_to 2 0 32768\n\
+        |1 move_by 2 -32769 0\n|1 resize 2 65536 1\n|1 resize 2 1 -1\n|1 show -1\n|1 hide 02\n\
+        |1 to_top\n|1 to_bottom 4294967296\n|1 set_class 2 256\n|1 set_class 2\n\
+        |1 invalidate\n|1 invalidate_rect 2 0 0 1\n|1 invalidate_rect 2 0 0 1 32768\n\
+        |1 invalidate_area 0 0 1 1 1\n|1 exec1 1\n|1 exec2\n",
     ),
     // Not built yet.
     (
         5,
         Reason::Later,
-        "1 create 2 0 0 1 1 0\n|1 create 01 0 0 1 1 0\n|1 create\n|1 hide 2\n|16 hide x\n\
-        |1 lock\n|font 0 1\n|string\n|display tick\n|viewer 1 join\n|done\n",
+        "1 set_trans 2 1\n|16 set_value x\n|1 send\n|1 begin\n|1 lock\n|font 0 1\n|string\n|display tick\n|viewer 1 join\n|done\n",
     ),
     // Bytes that no line has.
     (5, Reason::Ascii, "1 hide 2\r\n|1 scan\r\n"),

@@ -103,6 +103,7 @@ fn a_frame_stops_where_the_sink_fails(rt: HostRuntime) {
 }
 
 const CREATE: Call = Call::Create {
+    parent: 1,
     x: -1,
     y: 2,
     w: 0,
@@ -111,10 +112,26 @@ const CREATE: Call = Call::Create {
 };
 
 /// Calls, what they are answered, and the answer's line.
-const ANSWERS: [(Call, Reply, &str); 6] = [
+const ANSWERS: [(Call, Reply, &str); 10] = [
     (Call::Exec, Reply::Done, "ok\n"),
     (CREATE, Reply::Handle(70_000), "ok 70000\n"),
     (Call::Exec, Reply::Jobs(12), "ok 12\n"),
+    (Call::Show { h: 2 }, Reply::Done, "ok\n"),
+    (
+        Call::Hide { h: 9 },
+        Reply::Refused(Refusal::NoWindow(9)),
+        "refused NoWindow 9\n",
+    ),
+    (
+        Call::Hide { h: 1 },
+        Reply::Refused(Refusal::Desktop),
+        "refused Desktop\n",
+    ),
+    (
+        CREATE,
+        Reply::Refused(Refusal::TooDeep),
+        "refused TooDeep\n",
+    ),
     (
         CREATE,
         Reply::Refused(Refusal::BadSize),

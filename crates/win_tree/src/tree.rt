@@ -183,8 +183,9 @@ impl Tree {
         self.nodes.len()
     }
 
-    /// The first reason why a window can't be made in a parent.
-    fn refusal_of_create(&self, parent: u32, w: u16, h: u16) -> Option<TreeRefused>
+    /// The first reason why a window of these sides can't be made in a parent, if there is one, for
+    /// which `create` would be refused.
+    pub fn refusal_of_create(&self, parent: u32, w: u16, h: u16) -> Option<TreeRefused>
         ensures { result ≡ refusal_of_create self.now.windows parent w h }
     {
         let Some(over) = self.get(parent) else {

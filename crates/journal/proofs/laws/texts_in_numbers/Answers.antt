@@ -16,6 +16,7 @@ returns c = record {
   scan = refl;
   size = refl;
   class = refl;
+  window = refl;
   many = refl;
   summary = refl;
   fault = refl;

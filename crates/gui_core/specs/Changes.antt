@@ -1,0 +1,33 @@
+-- What the calls on one window do to the list. No contract of a public function names these.
+use Rattle.std.specs.Prelude.{ℕ, true, false, List}
+use Rattle.scene.specs.declared.win.Win.{Win}
+use Rattle.scene.specs.Families.{without_family, raised, lowered, window_changed, moved_to, resized_to, with_shown}
+use Rattle.calls.specs.declared.call.Call.{Call}
+use Rattle.calls.specs.declared.call.Call.TheVariants as call
+use Rattle.gui_core.specs.declared.change.Change.{Change}
+use Rattle.gui_core.specs.declared.change.Change.TheVariants.{Delete, MoveTo, MoveBy, Resize, Show, Hide, ToTop, ToBottom, SetClass}
+use Rattle.gui_core.specs.Windows.{moved_by, with_class}
+
+-- the call that asks for the change
+abbrev pub call_for : ℕ → Change → Call
+call_for h Delete = call.Delete h
+call_for h (MoveTo x y) = call.MoveTo h x y
+call_for h (MoveBy dx dy) = call.MoveBy h dx dy
+call_for h (Resize width height) = call.Resize h width height
+call_for h Show = call.Show h
+call_for h Hide = call.Hide h
+call_for h ToTop = call.ToTop h
+call_for h ToBottom = call.ToBottom h
+call_for h (SetClass class) = call.SetClass h class
+
+-- the list after it
+abbrev pub list_after : ℕ → Change → List Win → List Win
+list_after h Delete ws = without_family h ws
+list_after h (MoveTo x y) ws = window_changed h (moved_to x y) ws
+list_after h (MoveBy dx dy) ws = window_changed h (moved_by dx dy) ws
+list_after h (Resize width height) ws = window_changed h (resized_to width height) ws
+list_after h Show ws = window_changed h (with_shown true) ws
+list_after h Hide ws = window_changed h (with_shown false) ws
+list_after h ToTop ws = raised h ws
+list_after h ToBottom ws = lowered h ws
+list_after h (SetClass class) ws = window_changed h (with_class class) ws
