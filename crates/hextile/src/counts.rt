@@ -1,8 +1,15 @@
 //! How often values stand in a tile.
 
-ghost use Rattle.std.specs.Prelude.{◌≡◌, ◌==◌, ◌<◌, ◌≤◌, ◌&&◌, not, length, count_by, find};
-ghost use Rattle.std.specs.List.Sorted.{IsNonDecreasingBy};
-ghost use Rattle.hextile.specs.Encoding.{more_common, most_common};
+ghost use Rattle.std.specs.Prelude.{◌≡◌, ℕ, List, ◌==◌, ◌<◌, ◌≤◌, not, length, count_by, find, slice_index};
+ghost use Rattle.hextile.specs.Encoding.{most_common};
+ghost use Rattle.hextile.specs.Buckets.{bucket_of};
+ghost use Rattle.hextile.specs.Rows.{HasPoint};
+
+/// How many buckets there are.
+const BUCKETS: usize = 1024;
+
+/// The part of a product by it that tells a bucket depends on all bits of a value.
+const SPREAD: u32 = 2_654_435_769;
 
 /// The first value that is another one.
 pub fn other_than(points: &[u32], a: u32) -> Option<u32>
@@ -11,61 +18,40 @@ pub fn other_than(points: &[u32], a: u32) -> Option<u32>
     points.iter().copied().find(|x| *x != a)
 }
 
-/// The first value that is neither of two.
-pub fn other_than_both(points: &[u32], a: u32, b: u32) -> Option<u32>
-    ensures { result ≡ find (λ x. not (x == a) && not (x == b)) points.now }
-{
-    points.iter().copied().find(|x| *x != a && *x != b)
-}
-
 /// How many points have a value.
-fn count(points: &[u32], value: u32) -> usize
+pub fn count(points: &[u32], value: u32) -> usize
+    requires { length points.now ≤ 256 }
     ensures value { result ≡ count_by (λ x. x == value) points.now }
     ensures within { result ≤ length points.now }
 {
-    points.iter().filter(|x| **x == value).count()
-}
-
-/// Of two values the one that more points have, and on a tie the first one.
-pub fn more_common(points: &[u32], best: u32, x: u32) -> u32
-    ensures { result ≡ more_common points.now best x }
-{
-    if count(points, best) < count(points, x) {
-        x
-    } else {
-        best
+    let mut count: u32 = 0;
+    for x in points {
+        count += u32::from(*x == value);
     }
-}
-
-/// How many of the values, which rise, are this one.
-fn count_sorted(sorted: &[u32], value: u32) -> usize
-    requires rise { IsNonDecreasingBy (λ x. x) sorted.now }
-    ensures { result ≡ count_by (λ x. x == value) sorted.now }
-{
-    let end = sorted.partition_point(|x| *x <= value);
-    let start = sorted.partition_point(|x| *x < value);
-    end - start
+    count as usize
 }
 
 /// The value that most points have; of those with as many points the one whose first point comes
-/// first. The points are sorted in `work`, so that none is counted in a search through all of them,
-/// and the same value isn't counted twice in a row.
+/// first. No other value has more points than one that half of them have, and the two values that
+/// were counted last aren't counted again.
 #[tactic(auto, using(crate::proofs::CountLemmas::steps))]
-pub fn most_common(points: &[u32], work: &mut [u32]) -> u32
+pub fn most_common(points: &[u32]) -> u32
     requires some { 0 < length points.now }
-    requires room { length points.now ≤ length work.old }
+    requires few { length points.now ≤ 256 }
     ensures { result ≡ most_common points.now }
 {
-    let sorted = &mut work[..points.len()];
-    sorted.copy_from_slice(points);
-    sorted.sort_unstable();
     let mut best = points[0];
-    let mut most = count_sorted(sorted, best);
+    let mut most = count(points, best);
     let mut last = best;
+    let mut before = best;
     for x in points {
-        if *x != last {
+        if *x != last && *x != before {
+            if points.len() <= 2 * most {
+                return best;
+            }
+            before = last;
             last = *x;
-            let here = count_sorted(sorted, last);
+            let here = count(points, last);
             if most < here {
                 best = last;
                 most = here;
@@ -73,4 +59,32 @@ pub fn most_common(points: &[u32], work: &mut [u32]) -> u32
         }
     }
     best
+}
+
+/// The bucket of a value.
+#[tactic(auto, unfolding(crate::specs::Buckets::bucket_of))]
+fn bucket(value: u32) -> usize
+    ensures value { result ≡ bucket_of value }
+    ensures within { result < 1024 }
+{
+    (value.wrapping_mul(SPREAD) >> 22) as usize
+}
+
+/// How many buckets the values of points lie in: at most as many as there are different values.
+pub fn count_buckets(points: &[u32]) -> usize
+    ensures few { (values : List ℕ)
+        → ((k : ℕ) → k < length points.now → HasPoint values (slice_index points.now k))
+        → result ≤ length values }
+    ensures within { result ≤ length points.now }
+{
+    let mut taken = [false; BUCKETS];
+    let mut count = 0;
+    for x in points {
+        let place = bucket(*x);
+        if !taken[place] {
+            taken[place] = true;
+            count += 1;
+        }
+    }
+    count
 }

@@ -8,6 +8,7 @@ mod decoding;
 mod grid;
 mod known;
 pub mod laws;
+mod loading;
 mod painting;
 mod pixels;
 mod put;

@@ -11,10 +11,11 @@ ghost use Rattle.hextile.specs.Rectangles.{natural, IsInside, width_of, height_o
 ghost use Rattle.hextile.specs.Rows.{IsTile};
 
 use crate::known::Known;
+use crate::loading::load;
 use crate::sub::Sub;
 use crate::tile::{MOST_POINTS, put_tile};
 use frame::Frame;
-use gfx_base::Rect;
+use gfx_base::{Colour, Rect};
 use pixel_format::Format;
 
 /// The side of a tile in points.
@@ -37,31 +38,6 @@ fn tile_side(side: u16, number: u16) -> u16
     (side - number * TILE_SIDE).min(TILE_SIDE)
 }
 
-/// Puts the values of a part of a frame into `points`. The answer is how many there are.
-fn load(frame: &Frame, format: &Format, x: u16, y: u16, w: u16, h: u16, points: &mut [u32]) -> usize
-    requires part { IsPartOf frame.now.picture x y w h }
-    requires sides { (w ≤ 16) × (h ≤ 16) × (frame.now.picture.width ≤ 1024)
-        × (frame.now.picture.height ≤ 768) }
-    requires room { length points.old ≡ 256 }
-    ensures values { take result points.new
-        ≡ map (λ i. value_of format.now (colour_at frame.now.picture (x + i % w) (y + i / w)))
-        (range_with_len 0 (h * w)) }
-    ensures count { result ≡ h * w }
-{
-    let count = usize::from(h) * usize::from(w);
-    let mut u = 0;
-    let mut v = 0;
-    for i in 0..count {
-        points[i] = format.value(frame.get(x + u, y + v));
-        u += 1;
-        if u == w {
-            u = 0;
-            v += 1;
-        }
-    }
-    count
-}
-
 /// Puts the values of a tile of a part of a frame into `points`. The answer is how many a row has,
 /// and how many there are.
 fn load_tile(
@@ -72,11 +48,12 @@ fn load_tile(
     w: u16,
     h: u16,
     number: u16,
+    colours: &mut [Colour],
     points: &mut [u32],
 ) -> (usize, usize)
     requires part { IsPartOf frame.now.picture x y w h }
     requires number { number < tiles_along h * tiles_along w }
-    requires room { length points.old ≡ 256 }
+    requires room { (length colours.old ≡ 256) × (length points.old ≡ 256) }
     ensures tile { tile_of result.0 (take result.1 points.new)
         ≡ tile_at w h (values_in format.now frame.now.picture x y w h) number }
     ensures shape { IsTile result.0 (length (take result.1 points.new)) }
@@ -96,6 +73,7 @@ fn load_tile(
         y + row * TILE_SIDE,
         width,
         height,
+        colours,
         points,
     );
     (usize::from(width), count)
@@ -113,6 +91,7 @@ fn encode_part(frame: &Frame, x: u16, y: u16, w: u16, h: u16, format: &Format, o
 {
     let _frame_width = frame.width();
     let _pixel_bytes = format.bytes();
+    let mut colours = [Colour::default(); MOST_POINTS];
     let mut points = [0; MOST_POINTS];
     let mut left = [0; MOST_POINTS];
     let mut subs = [Sub::default(); MOST_POINTS];
@@ -121,7 +100,17 @@ fn encode_part(frame: &Frame, x: u16, y: u16, w: u16, h: u16, format: &Format, o
         foreground: None,
     };
     for number in 0..tile_count(h) * tile_count(w) {
-        let (width, count) = load_tile(frame, format, x, y, w, h, number, &mut points);
+        let (width, count) = load_tile(
+            frame,
+            format,
+            x,
+            y,
+            w,
+            h,
+            number,
+            &mut colours,
+            &mut points,
+        );
         known = put_tile(
             format,
             &points[..count],

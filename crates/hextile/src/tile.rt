@@ -1,13 +1,13 @@
 //! The bytes of one tile.
 
-ghost use Rattle.std.specs.Prelude.{◌≡◌, ◌+◌, ◌*◌, ◌<◌, ◌≤◌, ◌++◌, [], ◌∷◌, All, Some, None, take, length, vec_len, vec_capacity};
+ghost use Rattle.std.specs.Prelude.{◌≡◌, ℕ, IsTrue, ◌+◌, ◌*◌, ◌<◌, ◌≤◌, ◌++◌, [], ◌∷◌, All, Some, None, take, length, vec_len, vec_capacity};
 ghost use Rattle.std.specs.List.{flat_map};
 ghost use Rattle.pixel_format.specs.Formats.{byte_count, pixel_bytes};
 ghost use Rattle.hextile.specs.Tiles.{nothing_known};
 ghost use Rattle.hextile.specs.Encoding.{subrects, one_value, two_values, more_values, raw, or_shorter, coded, coded_by, coded_by_third, tile_of};
 ghost use Rattle.hextile.specs.Rows.{IsTile, IsSmall, HasPoint};
 
-use crate::counts::{more_common, most_common, other_than, other_than_both};
+use crate::counts::{count, count_buckets, most_common, other_than};
 use crate::known::{Known, is_known};
 use crate::put::{bit_unless, put_coloured, put_pixels, put_plain, put_unless, size_unless};
 use crate::sub::Sub;
@@ -148,6 +148,19 @@ fn put_more(
     }
 }
 
+/// Whether a tile has so many values that its pixels are shorter than its subrectangles, whichever
+/// value is the background: each other value takes a subrectangle at least.
+fn has_many(format: &Format, points: &[u32]) -> bool
+    requires { length points.now ≤ 256 }
+    ensures { IsTrue result → (w back : ℕ) → IsTile w (length points.now) → HasPoint points.now back
+        → 1 + length points.now * byte_count format.now
+        < 2 + length (subrects w back points.now) * (byte_count format.now + 2) }
+{
+    let count = count_buckets(points);
+    let bytes = format.bytes();
+    1 + points.len() * bytes + (bytes + 2) < 2 + count * (bytes + 2)
+}
+
 /// Appends the bytes of a tile. The answer is what is known after it.
 #[tactic(auto, unfolding(crate::specs::Encoding::coded))]
 pub fn put_tile(
@@ -168,19 +181,21 @@ pub fn put_tile(
     ensures after { result ≡ (coded format.now known (tile_of w points.now)).after }
     ensures room { vec_capacity out.new ≡ vec_capacity out.old }
 {
+    let _pixel_bytes = format.bytes();
     let a = points[0];
     let Some(b) = other_than(points, a) else {
         return put_one(format, known, a, out);
     };
-    match other_than_both(points, a, b) {
-        None => {
-            let back = more_common(points, a, b);
-            let fore = if back == a { b } else { a };
-            put_two(format, points, w, known, back, fore, left, subs, out)
-        }
-        Some(_) => {
-            let back = most_common(points, left);
-            put_more(format, points, w, known, back, left, subs, out)
-        }
+    let a_count = count(points, a);
+    let b_count = count(points, b);
+    if a_count + b_count == points.len() {
+        let back = if a_count < b_count { b } else { a };
+        let fore = if back == a { b } else { a };
+        return put_two(format, points, w, known, back, fore, left, subs, out);
     }
+    if has_many(format, points) {
+        return put_raw(format, points, out);
+    }
+    let back = most_common(points);
+    put_more(format, points, w, known, back, left, subs, out)
 }

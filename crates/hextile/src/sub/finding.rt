@@ -9,6 +9,9 @@ use crate::sub::Sub;
 /// The most rows of a tile.
 const MOST_ROWS: usize = 16;
 
+/// The points of a row of most tiles. A division by it is a shift.
+const WHOLE: usize = 16;
+
 /// How many points of this value stand side by side at the front.
 fn run_length(value: u32, points: &[u32]) -> usize
     ensures value { result ≡ run_length value points.now }
@@ -22,7 +25,9 @@ fn run_length(value: u32, points: &[u32]) -> usize
     points.len()
 }
 
-/// In how many rows from a place on all points, so many in each, have this value.
+/// In how many rows from a place on all points, so many in each, have this value. It stays a call:
+/// as a part of the search it makes each of its steps longer, also over background.
+#[inline(never)]
 #[tactic(auto, using(crate::proofs::RunLemmas::steps))]
 fn run_height(w: usize, value: u32, width: usize, points: &[u32], at: usize) -> usize
     requires sides { (w ≤ 16) × (1 ≤ width) × (width ≤ 16) }
@@ -54,14 +59,15 @@ fn sub_at(w: usize, points: &[u32], at: usize) -> Sub
     ensures most { (result.width ≤ 16) × (result.height ≤ 16) }
 {
     let value = points[at];
-    let x = at % w;
+    let x = if w == WHOLE { at % WHOLE } else { at % w };
+    let y = if w == WHOLE { at / WHOLE } else { at / w };
     let end = (at + (w - x)).min(points.len());
     let width = run_length(value, &points[at..end]);
     let height = run_height(w, value, width, points, at);
     Sub {
         value,
         x: x as u8,
-        y: (at / w) as u8,
+        y: y as u8,
         width: width as u8,
         height: height as u8,
     }
