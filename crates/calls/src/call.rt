@@ -15,25 +15,52 @@ pub enum Call {
         class: u8,
     },
     /// Deletes a window with its descendants.
-    Delete { h: u32 },
+    Delete {
+        h: u32,
+    },
     /// Moves a window to a place.
-    MoveTo { h: u32, x: i16, y: i16 },
+    MoveTo {
+        h: u32,
+        x: i16,
+        y: i16,
+    },
     /// Moves a window by differences. A sum stops at −32,768 and at 32,767.
-    MoveBy { h: u32, dx: i16, dy: i16 },
+    MoveBy {
+        h: u32,
+        dx: i16,
+        dy: i16,
+    },
     /// Gives a window other sides.
-    Resize { h: u32, width: u16, height: u16 },
+    Resize {
+        h: u32,
+        width: u16,
+        height: u16,
+    },
     /// Shows a window that was hidden.
-    Show { h: u32 },
+    Show {
+        h: u32,
+    },
     /// Hides a window, and its descendants with it.
-    Hide { h: u32 },
+    Hide {
+        h: u32,
+    },
     /// Puts a window on top of its siblings, with its descendants.
-    ToTop { h: u32 },
+    ToTop {
+        h: u32,
+    },
     /// Puts a window below its siblings, with its descendants.
-    ToBottom { h: u32 },
+    ToBottom {
+        h: u32,
+    },
     /// Gives a window the class of this number.
-    SetClass { h: u32, class: u8 },
+    SetClass {
+        h: u32,
+        class: u8,
+    },
     /// Makes all of a window invalid.
-    Invalidate { h: u32 },
+    Invalidate {
+        h: u32,
+    },
     /// Makes a rectangle of a window invalid, told from the window's upper left corner.
     InvalidateRect {
         h: u32,
@@ -43,7 +70,12 @@ pub enum Call {
         y1: i16,
     },
     /// Makes an area of the screen invalid in every window.
-    InvalidateArea { x0: i16, y0: i16, x1: i16, y1: i16 },
+    InvalidateArea {
+        x0: i16,
+        y0: i16,
+        x1: i16,
+        y1: i16,
+    },
     /// Paints until no window is invalid.
     Exec,
     /// Paints the first invalid window, if there is one.

@@ -1,5 +1,5 @@
 -- The rows of a job, one after the other.
-use Rattle.std.proofs.Common.{◌≡◌, ℕ, ◌+◌, ◌/◌, ◌<◌, ◌≤◌, Bool, true, false, cond, ◌&&◌, eqb, ltb, ℤ, pos, ◌≤ℤ◌, ◌<ℤ◌, ◌-ℤ◌, int_lt, Option, Some, None, List, drop, subst, refl, sym, ap, ◌∙◌, inl, inr, arith}
+use Rattle.std.proofs.Common.{◌≡◌, ℕ, ◌+◌, ◌/◌, ◌<◌, ◌≤◌, Bool, true, false, cond, ◌&&◌, eqb, ltb, ℤ, pos, ◌≤ℤ◌, ◌<ℤ◌, ◌-ℤ◌, int_lt, Option, Some, None, List, refl, sym, ap, ◌∙◌, inl, inr, arith}
 use Rattle.std.specs.Prelude.{not}
 use Rattle.std.proofs.lemmas.Int.{ints}
 use Rattle.gfx_base.specs.declared.point.Point.{Point}
@@ -17,7 +17,7 @@ use Rattle.scene.specs.Damage.{some_has, in_patch, in_patch_at, repainted}
 use Rattle.exec_paint.specs.declared.layer.Layer.{Layer}
 use Rattle.exec_paint.specs.declared.plan.Hole.{Hole}
 use Rattle.exec_paint.specs.Layers.{windows_in}
-use Rattle.exec_paint.specs.Plans.{is_hidden, IsOpenTo}
+use Rattle.exec_paint.specs.Plans.{is_hidden}
 use Rattle.exec_paint.specs.Areas.{IsOn, is_open, painted_in}
 use Rattle.exec_paint.proofs.LayerLemmas.{has-columns}
 use Rattle.std.proofs.lemmas.Bool.{cases_Bool, and_parts, and_from, or_parts}
@@ -132,22 +132,9 @@ tiles-all_rows width height bottom here tiles above so_far = record {
 
 -- ---- the plan of a job
 
--- what is left at an open point of the area
-pub plan-colours : (assets : Assets) (screen sides : Rect) (ws above : List Win) (area : Rect) (first : ℕ) (bare : Bool) (below all : List Layer) (holes : List Hole) → screen ≡ sides
-    → ((p : Point) (old : ℕ) → has area p ≡ true → painted_over (looks_of assets screen ws) p (cond bare 0 old) (windows_at (looks_of assets screen ws) (drop first ws) p) ≡ painted (looks_of assets screen ws) ws p)
-    → ((p : Point) (old : ℕ) → has area p ≡ true → IsOpenTo (looks_of assets screen ws) p old (drop first ws) (windows_in ws below) above)
-    → ((p : Point) (old : ℕ) → has area p ≡ true → is_hidden holes p ≡ false → painted_over (looks_of assets screen ws) p old (windows_at (looks_of assets screen ws) (windows_in ws all) p)
-    ≡ painted_over (looks_of assets screen ws) p (painted_over (looks_of assets screen ws) p old (windows_at (looks_of assets screen ws) (windows_in ws below) p)) (windows_at (looks_of assets screen ws) above p))
-    → (p : Point) (old : ℕ) → has area p ≡ true → is_hidden holes p ≡ false → painted_over (looks_of assets sides ws) p (cond bare 0 old) (windows_at (looks_of assets sides ws) (windows_in ws all) p) ≡ painted (looks_of assets sides ws) ws p
-plan-colours assets screen sides ws above area first bare below all holes same base low high p old here clear =
-    subst (λ (r : Rect). painted_over (looks_of assets r ws) p (cond bare 0 old) (windows_at (looks_of assets r ws) (windows_in ws all) p) ≡ painted (looks_of assets r ws) ws p) same
-    (high p (cond bare 0 old) here clear ∙ low p (cond bare 0 old) here ∙ base p old here)
-
-pub plan-holes : (assets : Assets) (screen sides : Rect) (ws above : List Win) (area : Rect) (holes : List Hole) → screen ≡ sides
-    → ((p : Point) → has area p ≡ true → is_hidden holes p ≡ hides_behind (looks_of assets screen ws) (windows_at (looks_of assets screen ws) above p))
-    → (p : Point) → has area p ≡ true → is_hidden holes p ≡ hides_behind (looks_of assets sides ws) (windows_at (looks_of assets sides ws) above p)
-plan-holes assets screen sides ws above area holes same hidden p here =
-    subst (λ (r : Rect). is_hidden holes p ≡ hides_behind (looks_of assets r ws) (windows_at (looks_of assets r ws) above p)) same (hidden p here)
+-- a screen of a picture's sides
+pub screen_is : (screen : Rect) (p : Picture) (width height : ℕ) → screen ≡ screen_with width height → width ≡ p.width → height ≡ p.height → screen ≡ screen_with p.width p.height
+screen_is screen p width height e w h = e ∙ rw (w, h) refl
 
 same_not : (a b c : Bool) → (a ≡ true → b ≡ c) → (a && not b) ≡ (a && not c)
 same_not true b c e = ap not (e refl)
@@ -264,6 +251,13 @@ tiles-same width height here there tiles same of = record {
 
 pub patch-empty : (p : Picture) (looks : Looks) (ws : List Win) (which : ℕ) → HasShape p → ((r : Point) → in_patch_at looks ws which r ≡ false) → p ≡ repainted looks ws which p
 patch-empty p looks ws which shape none = sym (changed-none p (λ x y. in_patch_at looks ws which (point_at (pos x) (pos y))) (λ x y. painted looks ws (point_at (pos x) (pos y))) shape (λ x y x_in y_in. none (point_at (pos x) (pos y))))
+
+-- where windows above hide the whole area, no point of it is open, and nothing is painted
+pub closed : (looks : Looks) (above : List Win) (area : Rect) (p : Point) → (has area p ≡ true → hides_behind looks (windows_at looks above p) ≡ true) → is_open looks above area p ≡ false
+closed looks above area p hides = off (has area p) (not (hides_behind looks (windows_at looks above p))) (λ here. ap not (hides here))
+
+pub area-closed : (p : Picture) (looks : Looks) (ws above : List Win) (area : Rect) → HasShape p → ((r : Point) → is_open looks above area r ≡ false) → p ≡ painted_in looks ws above area p
+area-closed p looks ws above area shape none = sym (changed-none p (λ x y. is_open looks above area (point_at (pos x) (pos y))) (λ x y. painted looks ws (point_at (pos x) (pos y))) shape (λ x y x_in y_in. none (point_at (pos x) (pos y))))
 
 pub tiles-empty : (width height : ℕ) (here : ℕ → ℕ → Bool) (tiles : List ℕ) → ((x y : ℕ) → here x y ≡ false) → ((c r : ℕ) → has_tile tiles c r ≡ false) → AreTilesOf width height here tiles
 tiles-empty width height here tiles none empty = record {

@@ -1,9 +1,9 @@
 -- Which windows count at a point of a job's area.
-use Rattle.std.proofs.Common.{◌≡◌, ℕ, ◌+◌, ◌<◌, ◌≤◌, Bool, true, false, cond, ◌&&◌, ◌||◌, ℤ, Option, Some, None, List, [], ◌∷◌, ◌++◌, length, get_or, take, drop, refl, sym, ap, ◌∙◌, inl, inr, arith}
+use Rattle.std.proofs.Common.{◌≡◌, ℕ, ◌+◌, ◌<◌, Bool, true, false, cond, ◌&&◌, ◌||◌, ℤ, Option, Some, None, List, [], ◌∷◌, ◌++◌, length, get_or, take, drop, refl, sym, ap, ◌∙◌, inl, inr, arith}
 use Rattle.std.specs.Prelude.{unwrap_or, int_le, is_some, not}
 use Rattle.std.proofs.lemmas.Bool.{cases_Bool, and_parts, and_from}
 use Rattle.std.proofs.lemmas.Int.{ints}
-use Rattle.std.proofs.lemmas.List.{drop_more, drop_all, take-append-drop}
+use Rattle.std.proofs.lemmas.List.{drop_more, take-append-drop}
 use Rattle.std.proofs.lemmas.List.Folds.{list_any-append}
 use Rattle.std.proofs.lemmas.List.Elements.{filter-append}
 use Rattle.gfx_base.specs.declared.point.Point.{Point}
@@ -20,7 +20,7 @@ use Rattle.scene.proofs.CallerLemmas.{painted_over-append}
 use Rattle.scene.proofs.CallerLemmas.{windows-here, windows-away}
 use Rattle.exec_paint.specs.declared.plan.Hole.{Hole}
 use Rattle.scene.specs.Places.{no_window}
-use Rattle.exec_paint.specs.Plans.{is_hidden, IsOpenTo}
+use Rattle.exec_paint.specs.Plans.{is_hidden}
 
 -- ---- one window
 
@@ -74,9 +74,6 @@ base-colours assets screen ws i p old lt opaque here =
 
 -- ---- which windows
 
-pub open-start : (looks : Looks) (p : Point) (old : ℕ) (all : List Win) → IsOpenTo looks p old all [] all
-open-start looks p old all = refl
-
 pub open-taken : (looks : Looks) (ws : List Win) (p : Point) (c old i : ℕ) (taken : List Win) → i < length ws
     → painted_over looks p (painted_over looks p old (windows_at looks taken p)) (windows_at looks (drop i ws) p) ≡ c
     → painted_over looks p (painted_over looks p old (windows_at looks (taken ++ get_or ws i no_window ∷ []) p)) (windows_at looks (drop (i + 1) ws) p) ≡ c
@@ -113,7 +110,7 @@ pub hides-drop : (looks : Looks) (ws : List Win) (p : Point) (i : ℕ) → i < l
     → hides_behind looks (windows_at looks (drop i ws) p) ≡ ((has (looks.clip (get_or ws i no_window)) p && looks.is_opaque (get_or ws i no_window)) || hides_behind looks (windows_at looks (drop (i + 1) ws) p))
 hides-drop looks ws p i lt = ap (λ (vs : List Win). hides_behind looks (windows_at looks vs p)) (drop_more ws i no_window lt) ∙ hides-next looks (get_or ws i no_window) (drop (i + 1) ws) p
 
-or_false : (b : Bool) → (b || false) ≡ b
+pub or_false : (b : Bool) → (b || false) ≡ b
 or_false true = refl
 or_false false = refl
 
@@ -153,12 +150,16 @@ hides-skipped looks ws hidden p i all lt away e =
     let w = get_or ws i no_window in
     still hidden (has (looks.clip w) p && looks.is_opaque w) (hides_behind looks (windows_at looks (drop (i + 1) ws) p)) all (rw away refl) (sym (ap (λ (b : Bool). hidden || b) (hides-drop looks ws p i lt)) ∙ e)
 
+or_true : (b : Bool) → (b || true) ≡ true
+or_true true = refl
+or_true false = refl
+
+-- where one that hides what is behind has the point, all hide it
+pub hides-here : (looks : Looks) (ws : List Win) (hidden : Bool) (p : Point) (i : ℕ) (all : Bool) → i < length ws → has (looks.clip (get_or ws i no_window)) p ≡ true → looks.is_opaque (get_or ws i no_window) ≡ true
+    → (hidden || hides_behind looks (windows_at looks (drop i ws) p)) ≡ all → all ≡ true
+hides-here looks ws hidden p i all lt here opaque e =
+    sym e ∙ ap (λ (b : Bool). hidden || b) (hides-drop looks ws p i lt ∙ rw (here, opaque) refl) ∙ or_true hidden
+
 pub neither : (a b : Bool) → (a || b) ≡ false → (a ≡ false) × (b ≡ false)
 neither false b e = (refl, e)
 neither true b e = absurd cc
-
-pub hides-end : (looks : Looks) (ws : List Win) (hidden all : Bool) (p : Point) (i : ℕ) → length ws ≤ i → (hidden || hides_behind looks (windows_at looks (drop i ws) p)) ≡ all → hidden ≡ all
-hides-end looks ws hidden all p i le e = sym (or_false hidden) ∙ (rw (drop_all i ws le) at e)
-
-pub open-end : (looks : Looks) (ws : List Win) (p : Point) (c behind i : ℕ) → length ws ≤ i → painted_over looks p behind (windows_at looks (drop i ws) p) ≡ c → behind ≡ c
-open-end looks ws p c behind i le e = rw (drop_all i ws le) at e

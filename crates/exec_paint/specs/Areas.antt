@@ -1,10 +1,12 @@
 -- Areas of the screen that a job paints. No contract of a public function names these.
-use Rattle.std.specs.Prelude.{ℕ, Bool, ◌&&◌, not, pos, ◌≤ℤ◌, ◌<ℤ◌, List}
+use Rattle.std.specs.Prelude.{◌≡◌, ℕ, Bool, true, ◌&&◌, not, pos, ◌≤ℤ◌, ◌<ℤ◌, List, slice_index_or}
 use Rattle.gfx_base.specs.declared.point.Point.{Point}
 use Rattle.gfx_base.specs.declared.rect.Rect.{Rect}
 use Rattle.gfx_base.specs.Rects.{has, point_at}
 use Rattle.frame.specs.Pictures.{Picture, changed}
 use Rattle.scene.specs.declared.win.Win.{Win}
+use Rattle.scene.specs.Places.{no_window}
+use Rattle.scene.specs.Clips.{clip_in}
 use Rattle.scene.specs.Painting.{Looks, windows_at, hides_behind, painted}
 
 -- the area isn't empty, and lies on a screen of these sides
@@ -15,6 +17,12 @@ pub record IsOn (width height : ℕ) (area : Rect) : Type 0 where
   pub bottom : area.y1 <ℤ pos height
   pub columns : area.x0 ≤ℤ area.x1
   pub rows : area.y0 ≤ℤ area.y1
+
+-- all points of the area lie in the clip of the window at a place
+abbrev pub LiesInWindow : Rect → List Win → ℕ → Rect → Type 0
+LiesInWindow screen ws which area =
+    (p : Point) → has area p ≡ true
+    → has (clip_in screen ws (slice_index_or ws which no_window)) p ≡ true
 
 -- whether the area has the point, and none of the windows above hides it there
 abbrev pub is_open : Looks → List Win → Rect → Point → Bool

@@ -1,5 +1,5 @@
 -- What a job paints with. No contract of a public function names these.
-use Rattle.std.specs.Prelude.{◌≡◌, ◌≤◌, ℕ, ℤ, pos, Bool, ◌&&◌, not, List}
+use Rattle.std.specs.Prelude.{◌≡◌, ◌≤◌, ℕ, ℤ, pos, Bool, true, false, ◌&&◌, ◌||◌, not, if◌then◌else◌, List}
 use Rattle.std.specs.List.{list_any}
 use Rattle.gfx_base.specs.declared.point.Point.{Point}
 use Rattle.gfx_base.specs.declared.rect.Rect.{Rect}
@@ -7,7 +7,7 @@ use Rattle.gfx_base.specs.Range.{is_within}
 use Rattle.gfx_base.specs.Rects.{has, point_at}
 use Rattle.region.specs.Spans.{in_spans}
 use Rattle.scene.specs.declared.win.Win.{Win}
-use Rattle.scene.specs.Painting.{Looks, windows_at, painted_over}
+use Rattle.scene.specs.Painting.{Looks, windows_at, hides_behind, painted_over, painted}
 use Rattle.exec_paint.specs.declared.plan.Hole.{Hole}
 use Rattle.exec_paint.specs.declared.row.RowPlan.{RowPlan}
 
@@ -21,8 +21,18 @@ IsPlanFrom y area holes plan = (v : ℕ) → y ≤ v → v ≤ plan.last → (x 
     → in_spans plan.spans x
     ≡ (is_within area.x0 area.x1 x && not (is_hidden holes (point_at x (pos v))))
 
--- at the point all windows leave what those that were taken and then the rest leave
-abbrev pub IsOpenTo : Looks → Point → ℕ → List Win → List Win → List Win → Type 0
-IsOpenTo looks p old all taken rest =
-    painted_over looks p (painted_over looks p old (windows_at looks taken p))
-    (windows_at looks rest p) ≡ painted_over looks p old (windows_at looks all p)
+-- at the points of the area that no hole has, what these windows leave and then the rest is the
+-- painter's colour: over black where the area is bare, and else over any colour
+abbrev pub PaintTo : Looks → List Win → Rect → Bool → List Win → List Hole → List Win → Type 0
+PaintTo looks ws area bare taken holes rest =
+    (p : Point) (old : ℕ) → has area p ≡ true → is_hidden holes p ≡ false
+    → painted_over looks p
+    (painted_over looks p (if bare then 0 else old) (windows_at looks taken p))
+    (windows_at looks rest p) ≡ painted looks ws p
+
+-- at the points of the area the holes and then the rest hide just what all these windows hide
+abbrev pub HideTo : Looks → Rect → List Hole → List Win → List Win → Type 0
+HideTo looks area holes rest all =
+    (p : Point) → has area p ≡ true
+    → (is_hidden holes p || hides_behind looks (windows_at looks rest p))
+    ≡ hides_behind looks (windows_at looks all p)

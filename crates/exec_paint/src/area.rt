@@ -1,23 +1,218 @@
 //! The job of one window.
 
-ghost use Rattle.std.specs.Prelude.{◌≡◌, ℕ, ◌+◌, ◌<◌, ◌≤◌, ◌≤ℤ◌, ◌<ℤ◌, ◌&&◌, pos, length, drop};
+ghost use Rattle.std.specs.Prelude.{◌≡◌, ◌+◌, ◌<◌, ◌≤◌, pos, length, drop, [], None, IsSome, IfSome, OnSome};
 ghost use Rattle.std.specs.List.{AllByRecursion};
-ghost use Rattle.arrayvec.specs.ArrayVec.{array_vec_len};
 ghost use Rattle.gfx_base.specs.Rects.{point_at};
 ghost use Rattle.frame.specs.Pictures.{HasShape};
 ghost use Rattle.paint_ops.specs.Soundness.{IsSound};
 ghost use Rattle.scene.specs.Looks.{IsPaintable, screen_with, looks_of};
+ghost use Rattle.scene.specs.Places.{AreSingle};
 ghost use Rattle.scene.specs.Damage.{in_patch_at, repainted};
 ghost use Rattle.gfx_base.specs.TileSets.{AreTilesOf};
+ghost use Rattle.exec_paint.specs.Areas.{IsOn, LiesInWindow, is_open, painted_in};
+ghost use Rattle.exec_paint.specs.Layers.{IsLayer, windows_in};
+ghost use Rattle.exec_paint.specs.Plans.{PaintTo, HideTo};
 
-use crate::layer::window_of;
-use crate::plan::{Holes, add_above, base_of, layers_below};
+use crate::layer::{Layer, window_of};
+use crate::plan::{Hole, take_above, take_below};
 use crate::row::{add_tiles, paint_row, plan_row};
 use crate::run::unsigned;
+use arrayvec::ArrayVec;
 use frame::Frame;
 use gfx_base::{Rect, Tiles};
 use paint_ops::Assets;
-use scene::{Win, ground, screen};
+use scene::{Ancestors, MOST_WINDOWS, Win, ground, screen};
+
+/// For how many windows there is room at first. Few jobs have more that count, and to make room for
+/// all that can be takes longer than to paint a small area.
+const FEW: usize = 16;
+
+/// Paints the layers on the rows of the area, as far as no hole has their points, and gives the
+/// tiles that hold a point of that part.
+fn paint_rows(
+    stack: &[Win],
+    which: usize,
+    area: &Rect,
+    layers: &[Layer],
+    holes: &[Hole],
+    bare: bool,
+    assets: &Assets,
+    target: &mut Frame,
+) -> Tiles
+    requires assets { IsSound assets.now }
+    requires windows { AllByRecursion (IsPaintable assets.now) stack.now }
+    requires shape { HasShape target.old.picture }
+    requires area { IsOn target.old.picture.width target.old.picture.height area.now }
+    requires layers { AllByRecursion
+        (IsLayer (screen_with target.old.picture.width target.old.picture.height) stack.now)
+        layers.now }
+    requires few_holes { length holes.now ≤ 255 }
+    requires holes { HideTo
+        (looks_of assets.now
+        (screen_with target.old.picture.width target.old.picture.height) stack.now) area.now
+        holes.now [] (drop (which + 1) stack.now) }
+    requires colours { PaintTo
+        (looks_of assets.now
+        (screen_with target.old.picture.width target.old.picture.height) stack.now) stack.now
+        area.now bare (windows_in stack.now layers.now) holes.now [] }
+    ensures picture { target.new.picture
+        ≡ painted_in
+        (looks_of assets.now
+        (screen_with target.old.picture.width target.old.picture.height) stack.now) stack.now
+        (drop (which + 1) stack.now) area.now target.old.picture }
+    ensures tiles { AreTilesOf target.old.picture.width target.old.picture.height
+        (λ x y. is_open
+        (looks_of assets.now
+        (screen_with target.old.picture.width target.old.picture.height) stack.now)
+        (drop (which + 1) stack.now) area.now (point_at (pos x) (pos y))) result }
+{
+    let width = target.width();
+    let mut tiles = Tiles::empty();
+    let top = unsigned(area.y0);
+    let mut plan = plan_row(area, holes, top);
+    for y in top..unsigned(area.y1) + 1 {
+        if plan.last < y {
+            plan = plan_row(area, holes, y);
+        }
+        let spans = plan.spans.spans();
+        paint_row(stack, layers, bare, spans, y, assets, target);
+        add_tiles(spans, y, width, &mut tiles);
+    }
+    tiles
+}
+
+/// Paints the area, which isn't empty and lies in the clip of the window at `which`, as far as no
+/// opaque window above hides it, and gives the tiles that hold a point of that part. `None`, with
+/// nothing painted, where there is no room for the windows that count on the area.
+fn paint_with_room<const N: usize>(
+    stack: &[Win],
+    which: usize,
+    area: &Rect,
+    layers: &mut ArrayVec<Layer, N>,
+    holes: &mut ArrayVec<Hole, N>,
+    assets: &Assets,
+    target: &mut Frame,
+) -> Option<Tiles>
+    requires assets { IsSound assets.now }
+    requires few { length stack.now ≤ 256 }
+    requires windows { AllByRecursion (IsPaintable assets.now) stack.now }
+    requires single { AreSingle stack.now }
+    requires which { which < length stack.now }
+    requires shape { HasShape target.old.picture }
+    requires area { IsOn target.old.picture.width target.old.picture.height area.now }
+    requires inside { LiesInWindow
+        (screen_with target.old.picture.width target.old.picture.height) stack.now which area.now }
+    requires layers { layers.old.items ≡ [] }
+    requires holes { holes.old.items ≡ [] }
+    ensures room { length stack.now ≤ N → IsSome result }
+    ensures nothing { result ≡ None → target.new ≡ target.old }
+    ensures picture { OnSome result (target.new.picture
+        ≡ painted_in
+        (looks_of assets.now
+        (screen_with target.old.picture.width target.old.picture.height) stack.now) stack.now
+        (drop (which + 1) stack.now) area.now target.old.picture) }
+    ensures tiles { IfSome result
+        (AreTilesOf target.old.picture.width target.old.picture.height
+        (λ x y. is_open
+        (looks_of assets.now
+        (screen_with target.old.picture.width target.old.picture.height) stack.now)
+        (drop (which + 1) stack.now) area.now (point_at (pos x) (pos y)))) }
+{
+    let screen = screen(target.width(), target.height());
+    let mut ancestors = Ancestors::new();
+    let bare = take_below(stack, which, area, &screen, assets, &mut ancestors, layers)?;
+    let hidden = take_above(
+        stack,
+        which,
+        area,
+        &screen,
+        assets,
+        &mut ancestors,
+        layers,
+        holes,
+    )?;
+    if hidden {
+        return Some(Tiles::empty());
+    }
+    Some(paint_rows(
+        stack,
+        which,
+        area,
+        layers.as_slice(),
+        holes.as_slice(),
+        bare,
+        assets,
+        target,
+    ))
+}
+
+/// The same with room for few windows.
+fn paint_few(
+    stack: &[Win],
+    which: usize,
+    area: &Rect,
+    assets: &Assets,
+    target: &mut Frame,
+) -> Option<Tiles>
+    requires assets { IsSound assets.now }
+    requires few { length stack.now ≤ 256 }
+    requires windows { AllByRecursion (IsPaintable assets.now) stack.now }
+    requires single { AreSingle stack.now }
+    requires which { which < length stack.now }
+    requires shape { HasShape target.old.picture }
+    requires area { IsOn target.old.picture.width target.old.picture.height area.now }
+    requires inside { LiesInWindow
+        (screen_with target.old.picture.width target.old.picture.height) stack.now which area.now }
+    ensures nothing { result ≡ None → target.new ≡ target.old }
+    ensures picture { OnSome result (target.new.picture
+        ≡ painted_in
+        (looks_of assets.now
+        (screen_with target.old.picture.width target.old.picture.height) stack.now) stack.now
+        (drop (which + 1) stack.now) area.now target.old.picture) }
+    ensures tiles { IfSome result
+        (AreTilesOf target.old.picture.width target.old.picture.height
+        (λ x y. is_open
+        (looks_of assets.now
+        (screen_with target.old.picture.width target.old.picture.height) stack.now)
+        (drop (which + 1) stack.now) area.now (point_at (pos x) (pos y)))) }
+{
+    let mut layers = ArrayVec::<Layer, FEW>::new();
+    let mut holes = ArrayVec::<Hole, FEW>::new();
+    paint_with_room(stack, which, area, &mut layers, &mut holes, assets, target)
+}
+
+/// The same with room for all windows that there can be.
+fn paint_many(
+    stack: &[Win],
+    which: usize,
+    area: &Rect,
+    assets: &Assets,
+    target: &mut Frame,
+) -> Tiles
+    requires assets { IsSound assets.now }
+    requires few { length stack.now ≤ 256 }
+    requires windows { AllByRecursion (IsPaintable assets.now) stack.now }
+    requires single { AreSingle stack.now }
+    requires which { which < length stack.now }
+    requires shape { HasShape target.old.picture }
+    requires area { IsOn target.old.picture.width target.old.picture.height area.now }
+    requires inside { LiesInWindow
+        (screen_with target.old.picture.width target.old.picture.height) stack.now which area.now }
+    ensures picture { target.new.picture
+        ≡ painted_in
+        (looks_of assets.now
+        (screen_with target.old.picture.width target.old.picture.height) stack.now) stack.now
+        (drop (which + 1) stack.now) area.now target.old.picture }
+    ensures tiles { AreTilesOf target.old.picture.width target.old.picture.height
+        (λ x y. is_open
+        (looks_of assets.now
+        (screen_with target.old.picture.width target.old.picture.height) stack.now)
+        (drop (which + 1) stack.now) area.now (point_at (pos x) (pos y))) result }
+{
+    let mut layers = ArrayVec::<Layer, MOST_WINDOWS>::new();
+    let mut holes = ArrayVec::<Hole, MOST_WINDOWS>::new();
+    paint_with_room(stack, which, area, &mut layers, &mut holes, assets, target).unwrap()
+}
 
 /// Paints the area, which isn't empty and lies in the clip of the window at `which`, as far as no
 /// opaque window above hides it, and gives the tiles that hold a point of that part.
@@ -31,9 +226,12 @@ fn paint_area(
     requires assets { IsSound assets.now }
     requires few { length stack.now ≤ 256 }
     requires windows { AllByRecursion (IsPaintable assets.now) stack.now }
+    requires single { AreSingle stack.now }
     requires which { which < length stack.now }
     requires shape { HasShape target.old.picture }
     requires area { IsOn target.old.picture.width target.old.picture.height area.now }
+    requires inside { LiesInWindow
+        (screen_with target.old.picture.width target.old.picture.height) stack.now which area.now }
     ensures picture { target.new.picture
         ≡ painted_in
         (looks_of assets.now
@@ -45,49 +243,28 @@ fn paint_area(
         (screen_with target.old.picture.width target.old.picture.height) stack.now)
         (drop (which + 1) stack.now) area.now (point_at (pos x) (pos y))) result }
 {
-    let width = target.width();
-    let screen = screen(width, target.height());
-    let base = base_of(stack, which, area, &screen, assets);
-    let mut layers = layers_below(stack, base.first, which, area, &screen, assets);
-    let mut holes = Holes::new();
-    add_above(stack, which, area, &screen, assets, &mut layers, &mut holes);
-    let mut tiles = Tiles::empty();
-    let top = unsigned(area.y0);
-    let mut plan = plan_row(area, holes.as_slice(), top);
-    for y in top..unsigned(area.y1) + 1 {
-        if plan.last < y {
-            plan = plan_row(area, holes.as_slice(), y);
-        }
-        let spans = plan.spans.spans();
-        paint_row(
-            stack,
-            layers.as_slice(),
-            base.bare,
-            spans,
-            y,
-            assets,
-            target,
-        );
-        add_tiles(spans, y, width, &mut tiles);
+    match paint_few(stack, which, area, assets, target) {
+        Some(tiles) => tiles,
+        None => paint_many(stack, which, area, assets, target),
     }
-    tiles
 }
-
-ghost use Rattle.exec_paint.specs.Areas.{IsOn, is_open, painted_in};
 
 /// Paints the window at `which`: on its patch, which are the points of its clip that no opaque
 /// window above it hides and that lie in its invalid rectangle, the target becomes the painter's
 /// picture of all windows, and elsewhere it stays. The answer has just the tiles that hold a point
 /// of the patch. The target has the screen's sides; there are at most 256 windows, each with sides
-/// of at most 4,096 points and with a class that exists. No memory is taken. `device` stays as it
-/// is.
+/// of at most 4,096 points and with a class that exists, and no handle stands twice. No memory is
+/// taken. `device` stays as it is.
 ///
 /// What it costs: where the window's clip and its invalid rectangle have no common point, the
-/// search for that clip alone. Else it asks for the clip of each window above, and of those below
-/// from the last opaque one on that covers the area; each clip costs a search of the stack for each
-/// ancestor. Then for each row of the area it looks at each opaque window above that meets the
-/// area, cuts those out that reach the row, and draws each other window that meets the area and
-/// reaches the row on the spans that are left.
+/// search for that clip alone, which is one of the stack for each ancestor. Else a pass over the
+/// windows above, and before it, where the window can be seen through, over those below; where the
+/// stack is in a tree's order, each of these costs a look at no more than eight ancestors. The job
+/// ends where an opaque window above covers the area. Where more than 16 windows are to be painted
+/// on the area, or more than 16 hide parts of it, the pass is made again. Then, for each row of the
+/// area on which an opaque window above begins or ends, it looks at each of those that meet the
+/// area and cuts out what they cover, and on every row it draws each other window that meets the
+/// area and reaches the row on the spans that are left.
 pub fn job(
     stack: &[Win],
     which: usize,
@@ -98,6 +275,7 @@ pub fn job(
     requires assets { IsSound assets.now }
     requires few { length stack.now ≤ 256 }
     requires windows { AllByRecursion (IsPaintable assets.now) stack.now }
+    requires single { AreSingle stack.now }
     requires which { which < length stack.now }
     ensures picture { target.new.picture
         ≡ repainted (looks_of assets.now

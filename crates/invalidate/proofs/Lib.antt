@@ -1,4 +1,3 @@
-mod PathLemmas
 mod RectLemmas
 mod AreaLemmas
 mod LawLemmas

@@ -1,2 +1,1 @@
 pub mod Invalidation
-pub mod Paths

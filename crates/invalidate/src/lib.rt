@@ -2,7 +2,6 @@
 #![tactic(auto)]
 
 mod areas;
-mod clips;
 pub mod laws;
 mod windows;
 

@@ -8,6 +8,7 @@ ghost use Rattle.std.specs.List.{AllByRecursion};
 ghost use Rattle.paint_ops.specs.Kinds.{Assets as Content};
 ghost use Rattle.paint_ops.specs.Soundness.{IsClass, IsSound};
 ghost use Rattle.scene.specs.Looks.{IsPaintable};
+ghost use Rattle.scene.specs.Places.{AreSingle};
 
 use exec_paint::job;
 use frame::Frame;
@@ -100,11 +101,27 @@ fn are_paintable(stack: &[Win], assets: &Assets) -> bool
     true
 }
 
+/// Whether no handle stands twice: each is above those before it.
+fn are_single(stack: &[Win]) -> bool
+    ensures { result ≡ true → AreSingle stack.now }
+{
+    let mut next = u32::MAX;
+    for i in (0..stack.len()).rev() {
+        let handle = stack[i].handle;
+        if next <= handle {
+            return false;
+        }
+        next = handle;
+    }
+    true
+}
+
 /// Paints each window but the desktop.
 fn paint(stack: &[Win], assets: &Assets, device: &mut Frame, target: &mut Frame)
     requires assets { IsSound assets.now }
     requires few { length stack.now ≤ 256 }
     requires windows { AllByRecursion (IsPaintable assets.now) stack.now }
+    requires single { AreSingle stack.now }
 {
     for which in 1..stack.len() {
         let _tiles = job(stack, which, assets, device, target);
@@ -115,7 +132,7 @@ fn paint(stack: &[Win], assets: &Assets, device: &mut Frame, target: &mut Frame)
 fn paint_grid(alloc: Global, stack: &[Win], rounds: u32, target: &mut Frame) -> Option<()> {
     let assets = assets(alloc)?;
     let mut device = Frame::new(alloc, 1, 1).ok()?;
-    if 256 < stack.len() || !are_paintable(stack, &assets) {
+    if 256 < stack.len() || !are_paintable(stack, &assets) || !are_single(stack) {
         return None;
     }
     for _ in 0..rounds {

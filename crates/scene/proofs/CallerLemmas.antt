@@ -3,7 +3,7 @@ use Rattle.std.proofs.Common.{◌≡◌, ℕ, List, [], ◌∷◌, ◌++◌, ref
 use Rattle.gfx_base.specs.declared.point.Point.{Point}
 use Rattle.scene.specs.declared.win.Win.{Win}
 use Rattle.scene.specs.Painting.{Looks, painted_over}
-pub use Rattle.scene.proofs.PlaceLemmas.{place_at-same, clips-same, has-clip_in}
+pub use Rattle.scene.proofs.PlaceLemmas.{place_at-same, AreSingle-same, AreSingle-rising, clips-same, has-clip_in}
 pub use Rattle.scene.proofs.PainterLemmas.{all-at, all-push, drawn_over, drawn_by, operations-more, over, windows-here, windows-away, corner_near}
 pub use Rattle.scene.proofs.VisibleLemmas.{windows_seeing-visible, is_damaged-visible, in_patch_at-get, in_patch_at-parts, painted-visible}
 pub use Rattle.scene.proofs.BareLemmas.{bare, places-same, looks-same, length-same, bare-area, bare-parts, painted-same, is_damaged-job, painted-job}

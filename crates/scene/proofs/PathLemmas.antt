@@ -12,11 +12,11 @@ use Rattle.gfx_base.specs.declared.rect.Rect.{Rect}
 use Rattle.gfx_base.specs.Rects.{point_at}
 use Rattle.scene.specs.declared.win.Win.{Win}
 use Rattle.scene.specs.declared.place.Spot.{Spot}
-use Rattle.scene.specs.declared.clips.Ancestor.{Ancestor}
-use Rattle.scene.specs.Places.{Place, place_of, place_at, window_of, number_of}
+use Rattle.scene.specs.declared.ancestors.Ancestor.{Ancestor}
+use Rattle.scene.specs.Places.{Place, place_of, place_at, parent_in, window_of, number_of}
 use Rattle.scene.specs.Clips.{FitsLevels, corner_from, corner_of, clip_from, clip_of, outer_clip}
 use Rattle.scene.specs.Paths.{IsSettled, IsOuter, IsOnLevel, AreOnLevels}
-use Rattle.scene.proofs.SpotLemmas.{FitsLevels-top_left}
+use Rattle.scene.proofs.SpotLemmas.{has_parent, FitsLevels-top_left}
 
 -- ---- a path
 
@@ -50,14 +50,19 @@ IsOuter-screen found screen q outer top corner clip = record {
 }
 
 -- a window lies in its parent
-pub IsOuter-parent : (found : ℕ → Option Place) (screen : Rect) (level : ℕ) (q : Place) (a : Ancestor) → IsOnLevel found screen level a → eqb q.parent 0 ≡ false → a.handle ≡ q.parent → IsOuter found screen level q a.spot
+pub IsOuter-settled : (found : ℕ → Option Place) (screen : Rect) (level : ℕ) (q parent : Place) (spot : Spot) → parent_in found q ≡ Some parent → IsSettled found screen level parent spot → IsOuter found screen level q spot
+IsOuter-settled found screen level q parent spot is settled =
+    let child = has_parent (eqb q.parent 0) (found q.parent) parent is in
+    record {
+      corner = λ n more. rw is (ap (corner_from q) (sym (settled.corner n more)));
+      clip = λ n more. rw (is, child) (ap (clip_from q (corner_from q (corner_of n found parent))) (sym (settled.clip n more)));
+      fits = settled.fits;
+    }
+
+IsOuter-parent : (found : ℕ → Option Place) (screen : Rect) (level : ℕ) (q : Place) (a : Ancestor) → IsOnLevel found screen level a → eqb q.parent 0 ≡ false → a.handle ≡ q.parent → IsOuter found screen level q a.spot
 IsOuter-parent found screen level q a on child same =
     let is : found q.parent ≡ Some on.place = ap found (sym same) ∙ on.is_found in
-    record {
-      corner = λ n more. rw (child, is) (ap (corner_from q) (sym (on.settled.corner n more)));
-      clip = λ n more. rw (child, is) (ap (clip_from q (corner_from q (corner_of n found on.place))) (sym (on.settled.clip n more)));
-      fits = on.settled.fits;
-    }
+    IsOuter-settled found screen level q on.place a.spot (rw child is) on.settled
 
 -- a window lies in the one on the path that has its parent's handle, where the path then ends
 pub IsOuter-at : (found : ℕ → Option Place) (screen : Rect) (q : Place) (path new : List Ancestor) (d : Ancestor) (k : ℕ) → position (λ (a : Ancestor). eqb a.handle q.parent) path ≡ Some k → AreOnLevels found screen 1 path → (q.parent ≡ 0 → ⊥) → new ≡ take (k + 1) path → IsOuter found screen (length new) q (get_or path k d).spot
@@ -126,3 +131,21 @@ window_of-single (v ∷ ws) (suc i) w at few =
 
 pub place_at-single : (ws : List Win) (i : ℕ) (w : Win) → slice_get ws i ≡ Some w → number_of w.handle ws ≤ 1 → place_at ws w.handle ≡ Some (place_of w)
 place_at-single ws i w at few = ap (option_map place_of) (window_of-single ws i w at few)
+
+-- a place that a handle finds has the handle
+place_at-handle : (ws : List Win) (handle : ℕ) (q : Place) → place_at ws handle ≡ Some q → q.handle ≡ handle
+place_at-handle [] handle q e = absurd cc
+place_at-handle (w ∷ ws) handle q e =
+    elim (cases_Bool (eqb w.handle handle)) [
+      | inl here ↦
+          let is : Some (place_of w) ≡ Some q = rw here at e in
+          let same : place_of w ≡ q = cc in
+          ap (λ (r : Place). r.handle) (sym same) ∙ eqb-true w.handle handle here
+      | inr away ↦ place_at-handle ws handle q (rw away at e)
+    ]
+
+-- a parent is found by its handle
+pub parent_found : (ws : List Win) (q parent : Place) → parent_in (place_at ws) q ≡ Some parent → place_at ws parent.handle ≡ Some parent
+parent_found ws q parent is =
+    let there : place_at ws q.parent ≡ Some parent = rw (has_parent (eqb q.parent 0) (place_at ws q.parent) parent is) at is in
+    ap (place_at ws) (place_at-handle ws q.parent parent there) ∙ there

@@ -1,15 +1,17 @@
 -- Clips depend on places alone, and lie on the screen.
-use Rattle.std.proofs.Common.{◌≡◌, ℕ, zero, suc, Bool, true, false, cond, eqb, List, [], ◌∷◌, map, Option, Some, None, refl, sym, ap, subst, inl, inr, ◌∙◌}
+use Rattle.std.proofs.Common.{◌≡◌, ℕ, zero, suc, ◌+◌, ◌<◌, ◌≤◌, Bool, true, false, cond, eqb, List, [], ◌∷◌, map, Option, Some, None, refl, sym, ap, subst, inl, inr, ◌∙◌, arith}
 use Rattle.std.specs.Prelude.{option_map}
 use Rattle.std.proofs.Math.Path.{fun_ext}
-use Rattle.std.proofs.lemmas.Bool.{cases_Bool, false≢true, and_parts}
+use Rattle.std.proofs.lemmas.Bool.{cases_Bool, eqb-true, false≢true, and_parts}
+use Rattle.std.proofs.lemmas.Bool.Decides.{nat_tests}
+use Rattle.std.specs.List.{AllByRecursion}
 use Rattle.std.proofs.lemmas.Simd.{map-map}
 use Rattle.gfx_base.specs.declared.point.Point.{Point}
 use Rattle.gfx_base.specs.declared.rect.Rect.{Rect}
 use Rattle.gfx_base.specs.Rects.{no_points, has, meet}
 use Rattle.gfx_base.proofs.CallerLemmas.{has-meet, has-no_points}
 use Rattle.scene.specs.declared.win.Win.{Win}
-use Rattle.scene.specs.Places.{Place, place_of, place_at, parent_in}
+use Rattle.scene.specs.Places.{Place, place_of, place_at, parent_in, number_of, AreSingle}
 use Rattle.scene.specs.Clips.{deepest_level, corner_of, frame_of, clip_of, outer_clip, clip_in}
 
 -- ---- by places
@@ -34,6 +36,44 @@ place_at-map (w ∷ ws) handle =
 -- windows that lie where others lie are found where those are found
 pub place_at-same : (ws vs : List Win) → map place_of ws ≡ map place_of vs → place_at ws ≡ place_at vs
 place_at-same ws vs e = fun_ext (λ handle. place_at-map ws handle ∙ ap (λ qs. place_in qs handle) e ∙ sym (place_at-map vs handle))
+
+-- how many of the places have the handle
+abbrev number_in : ℕ → List Place → ℕ
+number_in handle [] = 0
+number_in handle (q ∷ qs) = cond (eqb q.handle handle) 1 0 + number_in handle qs
+
+number_of-map : (handle : ℕ) (ws : List Win) → number_of handle ws ≡ number_in handle (map place_of ws)
+number_of-map handle [] = refl
+number_of-map handle (w ∷ ws) = ap (λ n. cond (eqb w.handle handle) 1 0 + n) (number_of-map handle ws)
+
+-- no handle stands twice in windows that lie where windows lie of which that is true
+pub AreSingle-same : (ws vs : List Win) → map place_of ws ≡ map place_of vs → AreSingle vs → AreSingle ws
+AreSingle-same ws vs e single handle =
+    let same : number_of handle ws ≡ number_of handle vs = number_of-map handle ws ∙ ap (number_in handle) e ∙ sym (number_of-map handle vs) in
+    rw same (single handle)
+
+none_below : (low handle : ℕ) (ws : List Win) → handle < low → AllByRecursion (λ v. low ≤ v.handle) ws → number_of handle ws ≡ 0
+none_below low handle [] less all = refl
+none_below low handle (w ∷ ws) less all =
+    let other : eqb w.handle handle ≡ false = let here : low ≤ w.handle = all.0 in grind (arith, nat_tests) in
+    rw (other, none_below low handle ws less all.1) refl
+
+at_least : (low high : ℕ) (ws : List Win) → low ≤ high → AllByRecursion (λ v. high ≤ v.handle) ws → AllByRecursion (λ v. low ≤ v.handle) ws
+at_least low high [] less all = tt
+at_least low high (w ∷ ws) less all = (let here : high ≤ w.handle = all.0 in omega arith, at_least low high ws less all.1)
+
+-- no handle stands twice where each is above those before it
+pub AreSingle-rising : (low : ℕ) (w : Win) (ws : List Win) → w.handle < low → AllByRecursion (λ v. low ≤ v.handle) ws → AreSingle ws → AllByRecursion (λ v. w.handle ≤ v.handle) (w ∷ ws) × AreSingle (w ∷ ws)
+AreSingle-rising low w ws less all single = (
+  (omega arith, at_least w.handle low ws (omega arith) all),
+  λ handle.
+      elim (cases_Bool (eqb w.handle handle)) [
+        | inl e ↦
+            let same : w.handle ≡ handle = eqb-true w.handle handle e in
+            rw (e, none_below low handle ws (omega (arith, same, less)) all) (omega arith)
+        | inr e ↦ let rest : number_of handle ws ≤ 1 = single handle in rw e (omega arith)
+      ],
+)
 
 -- the clips of all windows depend on their places alone
 pub clips-same : (screen : Rect) (ws vs : List Win) → map place_of ws ≡ map place_of vs → map (clip_in screen ws) ws ≡ map (clip_in screen vs) vs

@@ -18,7 +18,7 @@ clip_of-more zero screen found q some = absurd (omega arith)
 clip_of-more (suc levels) screen found q some = let one : suc levels - 1 ≡ levels = omega arith in rw one refl
 
 -- a window with a parent has its handle
-has_parent : (b : Bool) (o : Option Place) (parent : Place) → cond b None o ≡ Some parent → b ≡ false
+pub has_parent : (b : Bool) (o : Option Place) (parent : Place) → cond b None o ≡ Some parent → b ≡ false
 has_parent true o parent e = absurd cc
 has_parent false o parent e = refl
 

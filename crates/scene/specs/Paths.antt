@@ -1,8 +1,8 @@
--- The path of open ancestors, by which the clips of all windows are told in one pass.
+-- The path of open ancestors, by which the spots of all windows are told in one pass.
 use Rattle.std.specs.Prelude.{◌≡◌, ℕ, suc, ◌≤◌, List, [], ◌∷◌, Option, Some}
 use Rattle.gfx_base.specs.declared.rect.Rect.{Rect}
 use Rattle.scene.specs.declared.place.Spot.{Spot}
-use Rattle.scene.specs.declared.clips.Ancestor.{Ancestor}
+use Rattle.scene.specs.declared.ancestors.Ancestor.{Ancestor}
 use Rattle.scene.specs.Places.{Place}
 use Rattle.scene.specs.Clips.{FitsLevels, corner_from, corner_of, clip_from, clip_of}
 

@@ -21,9 +21,9 @@ const TOP_LEFT: Point = Point { x: 0, y: 0 };
 /// Where a window's upper left corner is on the screen, and the part of the screen that it may
 /// paint.
 #[derive(Clone, Copy)]
-pub(crate) struct Spot {
-    pub(crate) corner: Point,
-    pub(crate) clip: Rect,
+pub struct Spot {
+    pub corner: Point,
+    pub clip: Rect,
 }
 
 /// Nowhere on the screen.
@@ -33,7 +33,7 @@ pub(crate) const NOWHERE: Spot = Spot {
 };
 
 /// The window in which another lies, if it is found; the desktop lies in none.
-fn parent_of<'s>(stack: &'s [Win], w: &Win) -> Option<&'s Win>
+pub(crate) fn parent_of<'s>(stack: &'s [Win], w: &Win) -> Option<&'s Win>
     ensures { option_map (λ parent. place_of parent.now) result
         ≡ parent_in (place_at stack.now) (place_of w.now) }
 {

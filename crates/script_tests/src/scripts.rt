@@ -80,7 +80,11 @@ fn each_word_is_its_call(rt: HostRuntime) {
             x: i16::MIN,
             y: i16::MAX,
         },
-        Call::MoveBy { h: 3, dx: -1, dy: 1 },
+        Call::MoveBy {
+            h: 3,
+            dx: -1,
+            dy: 1,
+        },
         Call::Resize {
             h: 4,
             width: 0,

@@ -4,7 +4,7 @@
 ghost use Rattle.std.specs.Prelude.{◌<◌};
 ghost use Rattle.paint_ops.specs.Soundness.{IsSound};
 
-use crate::painter::{are_paintable, assets, win, with_value};
+use crate::painter::{are_paintable, are_single, assets, win, with_value};
 use exec_paint::job;
 use frame::Frame;
 use gfx_base::{Colour, Point, Rect, Tile, Tiles};
@@ -218,6 +218,9 @@ fn wrong_in_job(
     let mut after = painted(alloc, &blue, assets, sides)?;
     let mut device = painted(alloc, &blue, assets, sides)?;
     if stack.len() <= which || 256 < stack.len() || !are_paintable(stack, assets) {
+        return None;
+    }
+    if !are_single(stack) {
         return None;
     }
     let patch = Patch::of(alloc, stack, which, &screen(sides.0, sides.1), assets)?;

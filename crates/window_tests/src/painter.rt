@@ -5,6 +5,7 @@ ghost use Rattle.std.specs.List.{AllByRecursion};
 ghost use Rattle.paint_ops.specs.Kinds.{Assets as Content};
 ghost use Rattle.paint_ops.specs.Soundness.{IsClass, IsNum, IsOperation, IsSound};
 ghost use Rattle.scene.specs.Looks.{IsPaintable};
+ghost use Rattle.scene.specs.Places.{AreSingle};
 
 use frame::Frame;
 use gfx_base::Colour;
@@ -130,6 +131,21 @@ pub fn are_paintable(stack: &[Win], assets: &Assets) -> bool
         if !is_paintable(w, assets) {
             return false;
         }
+    }
+    true
+}
+
+/// Whether no handle stands twice: each is above those before it.
+pub fn are_single(stack: &[Win]) -> bool
+    ensures { result ≡ true → AreSingle stack.now }
+{
+    let mut next = u32::MAX;
+    for i in (0..stack.len()).rev() {
+        let handle = stack[i].handle;
+        if next <= handle {
+            return false;
+        }
+        next = handle;
     }
     true
 }

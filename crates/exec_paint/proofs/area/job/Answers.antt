@@ -1,4 +1,4 @@
-use Rattle.std.proofs.Common.{◌≡◌, ◌+◌, ℕ, false, ◌&&◌, pos, Option, Some, None, List, get_or, drop, refl, sym, ap, ◌∙◌}
+use Rattle.std.proofs.Common.{◌≡◌, ◌+◌, ℕ, false, ◌&&◌, pos, Option, Some, None, List, get_or, drop, sym, ap, ◌∙◌}
 use Rattle.std.specs.Prelude.{slice_get}
 use Rattle.std.proofs.lemmas.Bool.{and_parts}
 use Rattle.std.proofs.lemmas.Option.{get_or_from_slice_get, slice_get-get_or}
@@ -6,7 +6,6 @@ use Rattle.gfx_base.specs.declared.point.Point.{Point}
 use Rattle.gfx_base.specs.declared.rect.Rect.{Rect}
 use Rattle.gfx_base.specs.Rects.{has, point_at}
 use Rattle.gfx_base.proofs.CallerLemmas.{has-empty}
-use Rattle.frame.specs.Pictures.{Picture}
 use Rattle.scene.specs.declared.win.Win.{Win}
 use Rattle.scene.specs.Clips.{clip_in}
 use Rattle.scene.specs.Looks.{screen_with}
@@ -14,12 +13,9 @@ use Rattle.scene.specs.Damage.{in_patch_at}
 use Rattle.scene.proofs.CallerLemmas.{has-clip_in, in_patch_at-get}
 use Rattle.scene.specs.Places.{no_window}
 use Rattle.exec_paint.specs.Areas.{is_open}
-use Rattle.exec_paint.proofs.AreaLemmas.{looks_on, on-screen, open-patch, patch-painted, patch-empty, patch-valid, patch-outside, tiles-same, tiles-empty}
+use Rattle.exec_paint.proofs.AreaLemmas.{screen_is, looks_on, on-screen, open-patch, patch-painted, patch-empty, patch-valid, patch-outside, tiles-same, tiles-empty}
 use Rattle.exec_paint.proofs.area.job.Goals as goal
 use Rattle.exec_paint.proofs.area.job.Goals.{in-Some+else-not-is_empty, in_default}
-
-screen_is : (screen : Rect) (p : Picture) (width height : ℕ) → screen ≡ screen_with width height → width ≡ p.width → height ≡ p.height → screen ≡ screen_with p.width p.height
-screen_is screen p width height e w h = e ∙ rw (w, h) refl
 
 -- what the area has, by the window's clip and its invalid rectangle
 meeting : (screen sides : Rect) (ws : List Win) (w : Win) (clip invalid area : Rect) (p : Point) → screen ≡ sides → clip ≡ clip_in screen ws w → has area p ≡ (has clip p && has invalid p) → has area p ≡ (has (clip_in sides ws w) p && has invalid p)
@@ -39,6 +35,16 @@ paint_area-requires-clause-area c =
     on-screen p.width p.height c.meet-area.result
     (λ r h. has-clip_in (screen_with p.width p.height) ws w r (and_parts _ _ (sym (meeting c.screen-screen.result (screen_with p.width p.height) ws w c.ground.result c.in-Some.invalid c.meet-area.result r screen clip (c.meet-area.ensures.points r)) ∙ h)).0)
     (sym c.is_empty.ensures.value ∙ c.if-not-is_empty.true)
+
+pub paint_area-requires-clause-inside : goal.paint_area-requires-clause-inside
+paint_area-requires-clause-inside c = λ r here.
+    let a = c.args in
+    let p = a.target.now.picture in
+    let ws = a.stack.now in
+    let w = get_or ws a.which no_window in
+    let screen = screen_is c.screen-screen.result p c.width.result c.height.result c.screen-screen.ensures c.width.ensures.value c.height.ensures in
+    let clip = c.ground.ensures w (slice_get-get_or ws a.which no_window c.requires.which) in
+    (and_parts _ _ (sym (meeting c.screen-screen.result (screen_with p.width p.height) ws w c.ground.result c.in-Some.invalid c.meet-area.result r screen clip (c.meet-area.ensures.points r)) ∙ here)).0
 
 -- the open points of the area are those of the patch
 open_is_patch : (c : goal.After-paint_area) (r : Point)

@@ -5,9 +5,9 @@ use Rattle.scene.specs.Clips.{clip_in}
 use Rattle.scene.specs.Paths.{AreOnLevels}
 use Rattle.scene.proofs.clips.put_clips.Given as goal
 
-abbrev pub invariant-loop-w : goal.invariant-loop-w
-invariant-loop-w l = record {
-  clips : l.clips.items ≡ map (clip_in l.screen l.stack) (take l.w-index l.stack);
+abbrev pub invariant-loop-i : goal.invariant-loop-i
+invariant-loop-i l = record {
+  clips : l.clips.items ≡ map (clip_in l.screen l.stack) (take l.i l.stack);
   room : vec_capacity l.clips ≡ vec_capacity l.fn.clips;
-  path : AreOnLevels (place_at l.stack) l.screen 1 l.path.items;
+  ancestors : AreOnLevels (place_at l.stack) l.screen 1 l.ancestors;
 }

@@ -27,3 +27,6 @@ invariant_of-self c = rw (c.make_valid.ensures, shown_is c) (kept-job (before c)
 
 pub returns : goal.returns
 returns c = rw (c.make_valid.ensures, shown_is c, ← c.self.view_is) refl
+
+pub job-requires-clause-single : goal.job-requires-clause-single
+job-requires-clause-single c = rw c.stack.ensures c.self.invariant.scene.stack.single

@@ -7,7 +7,7 @@ use Rattle.scene.specs.Painting.{painted}
 use Rattle.exec_paint.specs.Areas.{is_open}
 use Rattle.gfx_base.specs.TileSets.{AreTilesOf}
 use Rattle.exec_paint.proofs.AreaLemmas.{to_row}
-use Rattle.exec_paint.proofs.area.paint_area.Given as goal
+use Rattle.exec_paint.proofs.area.paint_rows.Given as goal
 
 abbrev pub invariant-loop-y : goal.invariant-loop-y
 invariant-loop-y l =
@@ -16,5 +16,5 @@ invariant-loop-y l =
     record {
       picture : l.target.picture ≡ changed p (to_row (λ u v. is_open looks (drop (l.which + 1) l.stack) l.area (point_at (pos u) (pos v))) l.y) (λ u v. painted looks l.stack (point_at (pos u) (pos v)));
       tiles : AreTilesOf p.width p.height (to_row (λ u v. is_open looks (drop (l.which + 1) l.stack) l.area (point_at (pos u) (pos v))) l.y) l.tiles;
-      plan : IsPlanFrom l.y l.area l.holes.items l.plan;
+      plan : IsPlanFrom l.y l.area l.holes l.plan;
     }

@@ -1,7 +1,7 @@
 use Rattle.std.proofs.Common.{◌+◌, sym}
 use Rattle.scene.specs.Places.{place_of, place_at}
 use Rattle.scene.proofs.PathLemmas.{AreOnLevels-take, IsOuter-at}
-use Rattle.scene.proofs.clips.outer_on.Goals as goal
+use Rattle.scene.proofs.ancestors.outer_on.Goals as goal
 
 pub returns-clause-path : goal.returns-clause-path
 returns-clause-path c =
