@@ -1,5 +1,5 @@
-//! Plays and paints random scripts, and counts those whose shown picture isn't the painter's. The
-//! word is the number of scripts.
+//! Plays and paints random scripts up to each call that paints all, and counts how often the shown
+//! picture isn't the painter's. The words are the number of scripts and how many calls each has.
 #![tactic(auto)]
 
 ghost use Rattle.std.specs.Prelude.{◌<◌};
@@ -13,14 +13,12 @@ use std::{env, str};
 const HEADER: &str = "mtgui 1\nscreen 24 16\nbuffers 1\ndesktop 000000\nclass 1 0000FF\nend\n\
     class 2 00FF00\nend\nclass 3 FF0000\nend\nclass 4 FFFFFF\nend\n";
 
-/// How many calls a script has before its last two.
-const CALLS: u16 = 60;
-
-/// The handles that calls name: from 1 to one less, so that some of them name no window.
+/// Calls name handles below this at first. One call in eight makes a window, by and large, so
+/// there is a handle more after each eight calls, and some of them name no window.
 const HANDLES: u16 = 14;
 
 /// Room for what a command writes of a script.
-const ROOM: usize = 20_000;
+const ROOM: usize = 100_000;
 
 /// Numbers that look random, each made from the one before.
 #[derive(Drop)]
@@ -47,11 +45,13 @@ fn place(numbers: &mut Numbers) -> (i32, i32) {
 }
 
 /// Adds a call that makes a window, which may be refused for each of the reasons.
-fn add_create(numbers: &mut Numbers, script: &mut String) -> Result<(), AllocError> {
+fn add_create(numbers: &mut Numbers, script: &mut String, handles: u16) -> Result<(), AllocError>
+    requires { 0 < handles }
+{
     let parent = if numbers.below(3) == 0 {
         1
     } else {
-        numbers.below(HANDLES)
+        numbers.below(handles)
     };
     let (x, y) = place(numbers);
     let w = numbers.below(16);
@@ -79,32 +79,23 @@ fn add_change(numbers: &mut Numbers, script: &mut String, h: u16) -> Result<(), 
     }
 }
 
-/// Adds a call: one in eight paints, some do one job, some make an area invalid, and the others
+/// Adds a call that doesn't paint all: some do one job, some make an area invalid, and the others
 /// make or change a window.
-fn add_call(numbers: &mut Numbers, script: &mut String) -> Result<(), AllocError> {
-    match numbers.below(8) {
-        0 => script.push_str("1 exec\n"),
-        1 => script.push_str("1 exec1\n"),
-        2 => {
+fn add_call(numbers: &mut Numbers, script: &mut String, handles: u16) -> Result<(), AllocError>
+    requires { 0 < handles }
+{
+    match numbers.below(7) {
+        0 => script.push_str("1 exec1\n"),
+        1 => {
             let (x, y) = place(numbers);
             writeln!(script, "1 invalidate_area {x} {y} 9 9")
         }
-        3 | 4 => add_create(numbers, script),
+        2 | 3 => add_create(numbers, script, handles),
         _ => {
-            let h = numbers.below(HANDLES);
+            let h = numbers.below(handles);
             add_change(numbers, script, h)
         }
     }
-}
-
-/// A script that paints at its end, and shows the picture.
-fn random_script(alloc: Global, numbers: &mut Numbers) -> Result<String, AllocError> {
-    let mut script = String::from_str(alloc, HEADER)?;
-    for _ in 0..CALLS {
-        add_call(numbers, &mut script)?;
-    }
-    script.push_str("1 exec\n1 scan\n")?;
-    Ok(script)
 }
 
 fn store_of(alloc: Global, script: &str) -> Result<MemStore, AllocError> {
@@ -129,39 +120,75 @@ fn written(alloc: Global, verb: &str, script: &str) -> Option<MemSink> {
     }
 }
 
-/// Whether the one picture that a script shows is the painter's.
-fn shows_the_painter(alloc: Global, script: &str) -> Option<bool> {
-    let played = written(alloc, "play", script)?;
-    let painted = written(alloc, "paint", script)?;
+/// Whether the picture that a script's calls show is the painter's.
+fn shows_the_painter(alloc: Global, calls: &str) -> Option<bool> {
+    let mut script = String::from_str(alloc, calls).ok()?;
+    script.push_str("1 scan\n").ok()?;
+    let played = written(alloc, "play", script.as_str())?;
+    let painted = written(alloc, "paint", script.as_str())?;
     let painted = str::from_utf8(painted.bytes()).ok()?;
     Some(str::from_utf8(played.bytes()).ok()?.contains(painted))
 }
 
-/// How many of so many scripts show another picture than the painter's.
-fn differing(alloc: Global, rounds: u16) -> Option<u16> {
-    let mut numbers = Numbers { last: 1 };
-    let mut differing = 0u16;
-    for _ in 0..rounds {
-        let script = random_script(alloc, &mut numbers).ok()?;
-        if !shows_the_painter(alloc, &script)? {
-            differing = differing.saturating_add(1);
-        }
-    }
-    Some(differing)
+/// How often pictures were looked at, and how often they weren't the painter's.
+#[derive(Clone, Copy)]
+struct Looks {
+    count: u32,
+    differing: u32,
 }
 
-/// The number of rounds that the word says, and how many of them differ. `None` where memory runs
+impl Looks {
+    fn add(self, is_right: bool) -> Looks {
+        Looks {
+            count: self.count.saturating_add(1),
+            differing: self.differing.saturating_add(u32::from(!is_right)),
+        }
+    }
+}
+
+/// Makes a script of so many calls, one in eight of which paints all, and looks at the picture
+/// after each of these.
+fn look(alloc: Global, numbers: &mut Numbers, calls: u16, before: Looks) -> Option<Looks> {
+    let mut looks = before;
+    let mut script = String::from_str(alloc, HEADER).ok()?;
+    for call in 0..calls {
+        if numbers.below(8) == 0 {
+            script.push_str("1 exec\n").ok()?;
+            looks = looks.add(shows_the_painter(alloc, script.as_str())?);
+        } else {
+            add_call(numbers, &mut script, HANDLES + call / 8).ok()?;
+        }
+    }
+    Some(looks)
+}
+
+/// What is seen of so many scripts.
+fn look_at_all(alloc: Global, scripts: u16, calls: u16) -> Option<Looks> {
+    let mut numbers = Numbers { last: 1 };
+    let mut looks = Looks {
+        count: 0,
+        differing: 0,
+    };
+    for _ in 0..scripts {
+        looks = look(alloc, &mut numbers, calls, looks)?;
+    }
+    Some(looks)
+}
+
+/// What is seen of as many scripts of as many calls as the words say. `None` where memory runs
 /// out, the words are others, or a command fails.
-fn run(rt: &HostRuntime) -> Option<(u16, u16)> {
-    let rounds = env::args(rt).ok()?.skip(1).next()?.parse::<u16>().ok()?;
-    Some((rounds, differing(rt.alloc(), rounds)?))
+fn run(rt: &HostRuntime) -> Option<Looks> {
+    let mut words = env::args(rt).ok()?.skip(1);
+    let scripts = words.next()?.parse::<u16>().ok()?;
+    let calls = words.next()?.parse::<u16>().ok()?;
+    look_at_all(rt.alloc(), scripts, calls)
 }
 
 fn main(rt: HostRuntime) -> ExitCode {
-    let Some((rounds, differing)) = run(&rt) else {
+    let Some(Looks { count, differing }) = run(&rt) else {
         return ExitCode::from(2);
     };
-    match println!(rt; "rounds {rounds} differing {differing}") {
+    match println!(rt; "looks {count} differing {differing}") {
         Ok(()) => ExitCode::from(0),
         Err(_) => ExitCode::from(1),
     }
