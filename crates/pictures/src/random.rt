@@ -1,0 +1,115 @@
+//! Random scripts.
+
+ghost use Rattle.std.specs.Prelude.{◌<◌};
+
+use crate::looks::{HEADER, Looks};
+use std::alloc::{AllocError, Global};
+
+/// Calls name handles below this at first. One call in eight makes a window, by and large, so
+/// there is a handle more after each eight calls, and some of them name no window.
+const HANDLES: u16 = 14;
+
+/// Numbers that look random, each made from the one before.
+#[derive(Drop)]
+struct Numbers {
+    last: u32,
+}
+
+impl Numbers {
+    /// The next number, which is below `end`.
+    fn below(&mut self, end: u16) -> u16
+        requires { 0 < end }
+        ensures { result < end }
+    {
+        self.last = self.last.wrapping_mul(1_103_515_245).wrapping_add(12_345);
+        (self.last >> 16) as u16 % end
+    }
+}
+
+/// A place in a parent, which may lie off the screen.
+fn place(numbers: &mut Numbers) -> (i32, i32) {
+    let x = i32::from(numbers.below(36)) - 12;
+    let y = i32::from(numbers.below(26)) - 10;
+    (x, y)
+}
+
+/// Adds a call that makes a window, which may be refused for each of the reasons.
+fn add_create(numbers: &mut Numbers, script: &mut String, handles: u16) -> Result<(), AllocError>
+    requires { 0 < handles }
+{
+    let parent = if numbers.below(3) == 0 {
+        1
+    } else {
+        numbers.below(handles)
+    };
+    let (x, y) = place(numbers);
+    let w = numbers.below(16);
+    let h = numbers.below(12);
+    let class = numbers.below(6);
+    writeln!(script, "1 create {parent} {x} {y} {w} {h} {class}")
+}
+
+/// Adds a call on a window of this handle, which may be refused too.
+fn add_change(numbers: &mut Numbers, script: &mut String, h: u16) -> Result<(), AllocError> {
+    let (x, y) = place(numbers);
+    let w = numbers.below(16);
+    match numbers.below(11) {
+        0 => writeln!(script, "1 delete {h}"),
+        1 => writeln!(script, "1 move_to {h} {x} {y}"),
+        2 => writeln!(script, "1 move_by {h} {x} {y}"),
+        3 => writeln!(script, "1 resize {h} {w} 7"),
+        4 => writeln!(script, "1 show {h}"),
+        5 => writeln!(script, "1 hide {h}"),
+        6 => writeln!(script, "1 to_top {h}"),
+        7 => writeln!(script, "1 to_bottom {h}"),
+        8 => writeln!(script, "1 set_class {h} {w}"),
+        9 => writeln!(script, "1 invalidate {h}"),
+        _ => writeln!(script, "1 invalidate_rect {h} {x} {y} {w} 9"),
+    }
+}
+
+/// Adds a call that doesn't paint all: some do one job, some make an area invalid, and the others
+/// make or change a window.
+fn add_call(numbers: &mut Numbers, script: &mut String, handles: u16) -> Result<(), AllocError>
+    requires { 0 < handles }
+{
+    match numbers.below(7) {
+        0 => script.push_str("1 exec1\n"),
+        1 => {
+            let (x, y) = place(numbers);
+            writeln!(script, "1 invalidate_area {x} {y} 9 9")
+        }
+        2 | 3 => add_create(numbers, script, handles),
+        _ => {
+            let h = numbers.below(handles);
+            add_change(numbers, script, h)
+        }
+    }
+}
+
+/// Makes a script of so many calls, one in eight of which paints all, and looks at the picture
+/// after each of these.
+fn look(alloc: Global, numbers: &mut Numbers, calls: u16, before: Looks) -> Option<Looks> {
+    let mut looks = before;
+    let mut script = String::from_str(alloc, HEADER).ok()?;
+    for call in 0..calls {
+        if numbers.below(8) == 0 {
+            script.push_str("1 exec\n").ok()?;
+            looks = looks.look(alloc, script.as_str())?;
+        } else {
+            add_call(numbers, &mut script, HANDLES + call / 8).ok()?;
+        }
+    }
+    Some(looks)
+}
+
+/// What is seen of so many scripts, after what was seen before. `None` where memory runs out or a
+/// command fails.
+pub fn look_at_all(alloc: Global, scripts: u16, calls: u16, before: Looks) -> Option<Looks> {
+    let mut numbers = Numbers { last: 1 };
+    let mut looks = before;
+    for _ in 0..scripts {
+        looks = look(alloc, &mut numbers, calls, looks)?;
+    }
+    Some(looks)
+}
