@@ -2,14 +2,15 @@
 use Rattle.std.specs.Prelude.{pos, [], ◌∷◌}
 use Rattle.calls.specs.declared.call.Call.TheVariants.{Create, Exec, Scan}
 use Rattle.script.specs.Scripts.{Script, script_for}
-use Rattle.script.specs.Examples.{by_task_1, small_listing}
+use Rattle.script.specs.Examples.{by_task_1, plain_assets, small_listing}
 
 -- a blue window of three by two points on a black screen is made, painted and looked at
 abbrev pub first_script : Script
 first_script = script_for (record {
   width = 8;
   height = 4;
-  classes = 0 ∷ 255 ∷ [];
+  desktop = 0;
+  assets = plain_assets (0 ∷ 255 ∷ []);
   lines = by_task_1 (Create 1 (pos 2) (pos 1) 3 2 1) ∷ by_task_1 Exec ∷ by_task_1 Scan ∷ [];
 })
 

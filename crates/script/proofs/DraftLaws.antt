@@ -1,16 +1,16 @@
 -- What a draft says of the lines that were read: they are the first ones of a script.
-use Rattle.std.proofs.Common.{◌≡◌, ℕ, ◌+◌, ◌<◌, Bool, true, false, cond, eqb, ltb, List, [], ◌∷◌, ◌++◌, length, Option, Some, None, Result, Ok, Err, refl, sym, ap, subst, ◌∙◌, inl, inr, arith, append_assoc}
+use Rattle.std.proofs.Common.{◌≡◌, ℕ, ◌<◌, ◌≤◌, Bool, true, false, cond, eqb, ltb, ◌&&◌, List, [], ◌∷◌, ◌++◌, length, Option, Some, None, Result, Ok, Err, refl, sym, ap, subst, ◌∙◌, inl, inr, arith, append_assoc}
 use Rattle.std.specs.Prelude.{bytes_eq, codes}
 use Rattle.std.specs.List.{AllByRecursion}
-use Rattle.std.proofs.lemmas.Bool.{ltb-true}
+use Rattle.std.proofs.lemmas.Bool.{cases_Bool, ltb-true}
 use Rattle.std.proofs.lemmas.Bool.Decides.{nat_tests}
-use Rattle.std.proofs.lemmas.List.{append-nil, length-append}
+use Rattle.std.proofs.lemmas.List.{append-nil}
 use Rattle.spelling.specs.Parts.{is_printable}
-use Rattle.spelling.specs.Words.{words_of, after_word}
+use Rattle.spelling.specs.Words.{words_of}
 use Rattle.spelling.specs.Fields.{Values, texts_of, AreIn}
 use Rattle.spelling.specs.Items.{is_comment, AreComments}
 use Rattle.spelling.specs.LineReading.{run}
-use Rattle.spelling.proofs.CallerLemmas.{chosen, named, after_word_takes, line_from_words, values_take, line_values_take, comments_more, items_comment, items_more, all_after_more, on_ok}
+use Rattle.spelling.proofs.CallerLemmas.{chosen, named, same_name, line_from_words, values_take, line_values_take, comments_more, items_comment, items_more, all_after_more, on_ok}
 use Rattle.calls.specs.declared.line.Line.{Line}
 use Rattle.calls.specs.Words.{line_of}
 use Rattle.calls.proofs.CallerLemmas.{line_read}
@@ -18,11 +18,12 @@ use Rattle.script.specs.declared.draft.Stage.{Stage}
 use Rattle.script.specs.declared.draft.Stage.TheVariants as stage
 use Rattle.script.specs.declared.fault.Reason.{Reason}
 use Rattle.script.specs.declared.fault.Reason.TheVariants as reason
-use Rattle.script.specs.Fields.{screen_in, desktop_in, class_in}
-use Rattle.script.specs.Later.{is_later_class}
-use Rattle.script.specs.Scripts.{screen_fields, desktop_fields, class_fields, class_text, Item, Title, Screen, Buffers, Desktop, ClassOf, CallOf, Before, nothing, after, after_items, Spells, AreItemsOf, Listing, empty_listing, listing_with, listing_of}
+use Rattle.script.specs.Fields.{screen_in, desktop_in, class_in, string_in}
+use Rattle.script.specs.Later.{is_one_of, asset_words, is_later_class}
+use Rattle.script.specs.Scripts.{screen_fields, desktop_fields, class_fields, class_text, string_text, with_string, with_line, with_desktop, Item, Title, Screen, Buffers, Desktop, StringOf, ClassOf, CallOf, Before, nothing, after, after_items, Spells, AreItemsOf}
 use Rattle.script.specs.Faults.{IsFront, StandsAt}
-use Rattle.script.specs.Reading.{Draft, after_value, after_title, after_screen, after_buffers, after_desktop, after_block, after_opening, after_class, after_other, after_call, after_body, after_words, after_line, listing_from, before_at, place_at, place_of, header_reason, block_reason, empty_draft}
+use Rattle.script.specs.Reading.{Draft, after_value, after_title, after_screen, after_buffers, after_desktop, after_block, after_class, after_string, after_early, after_asset, after_other, after_call, after_body, after_words, after_line, staged, opened, before_at, place_at, place_of, header_reason, block_reason, call_reason, empty_draft}
+use Rattle.script.proofs.StringLaws.{string_taken}
 
 -- ---- where a draft stands
 
@@ -31,24 +32,19 @@ pub record HasItems (header : ℕ) (d : Draft) (lines : List (List ℕ)) : Type 
   pub items : List Item
   pub spelled : AreItemsOf items lines
   pub before : after_items items ≡ before_at header d
-  pub said : listing_of items ≡ listing_from d
-
--- the draft with a class that was opened
-abbrev pub opened : Draft → ℕ → Draft
-opened d back = record d { stage = stage.Block; classes = d.classes ++ back ∷ [] }
 
 -- the lines are items, a class's first line and comments
 pub record HasClass (d : Draft) (lines : List (List ℕ)) : Type 0 where
   pub old : Draft
   pub front : List (List ℕ)
   pub has : HasItems 4 old front
-  pub early : length old.lines ≡ 0
+  pub none : length old.said.lines ≡ 0
   pub back : ℕ
-  pub counted : AreIn class_fields (length old.classes, (back, tt))
+  pub counted : AreIn class_fields (length old.said.assets.classes, (back, tt))
   pub is : d ≡ opened old back
   pub body : List (List ℕ)
   pub comments : AreComments body
-  pub parts : lines ≡ front ++ class_text (length old.classes) back ∷ body
+  pub parts : lines ≡ front ++ class_text (length old.said.assets.classes) back ∷ body
 
 abbrev pub StandsIn : Stage → Draft → List (List ℕ) → Type 0
 StandsIn stage.Title d lines = HasItems 0 d lines
@@ -62,20 +58,19 @@ abbrev pub Stands : Draft → List (List ℕ) → Type 0
 Stands d lines = StandsIn d.stage d lines
 
 start_stands : Stands empty_draft []
-start_stands = record { items = []; spelled = tt; before = refl; said = refl }
+start_stands = record { items = []; spelled = tt; before = refl }
 
 -- ---- one item more
 
-push : (header next : ℕ) (d e : Draft) (lines block : List (List ℕ)) (item : Item) → HasItems header d lines → Spells (before_at header d) item block → after (before_at header d) item ≡ before_at next e → listing_with (listing_from d) item ≡ listing_from e → HasItems next e (lines ++ block)
-push header next d e lines block item has spells now said = record {
+push : (header next : ℕ) (d e : Draft) (lines block : List (List ℕ)) (item : Item) → HasItems header d lines → Spells (before_at header d) item block → after (before_at header d) item ≡ before_at next e → HasItems next e (lines ++ block)
+push header next d e lines block item has spells now = record {
   items = has.items ++ item ∷ [];
   spelled = items_more Spells after nothing has.items item lines block has.spelled (subst (λ (b : Before). Spells b item block) (sym has.before) spells);
   before = all_after_more after nothing has.items item ∙ ap (λ (b : Before). after b item) has.before ∙ now;
-  said = all_after_more listing_with empty_listing has.items item ∙ ap (λ (l : Listing). listing_with l item) has.said ∙ said;
 }
 
 with_comment : (header : ℕ) (d : Draft) (lines : List (List ℕ)) (line : List ℕ) → HasItems header d lines → is_comment line ≡ true → HasItems header d (lines ++ line ∷ [])
-with_comment header d lines line has is = record { items = has.items; spelled = items_comment Spells after nothing has.items lines line has.spelled is; before = has.before; said = has.said }
+with_comment header d lines line has is = record { items = has.items; spelled = items_comment Spells after nothing has.items lines line has.spelled is; before = has.before }
 
 comment_stands : (s : Stage) (d : Draft) (lines : List (List ℕ)) (line : List ℕ) → StandsIn s d lines → is_comment line ≡ true → StandsIn s d (lines ++ line ∷ [])
 comment_stands stage.Title d lines line has is = with_comment 0 d lines line has is
@@ -87,13 +82,13 @@ comment_stands stage.Block d lines line has is = record {
   old = has.old;
   front = has.front;
   has = has.has;
-  early = has.early;
+  none = has.none;
   back = has.back;
   counted = has.counted;
   is = has.is;
   body = has.body ++ line ∷ [];
   comments = comments_more has.body line has.comments is;
-  parts = ap (λ (ls : List (List ℕ)). ls ++ line ∷ []) has.parts ∙ append_assoc has.front (class_text (length has.old.classes) has.back ∷ has.body) (line ∷ []);
+  parts = ap (λ (ls : List (List ℕ)). ls ++ line ∷ []) has.parts ∙ append_assoc has.front (class_text (length has.old.said.assets.classes) has.back ∷ has.body) (line ∷ []);
 }
 
 -- ---- lines by their stage
@@ -115,73 +110,70 @@ title_stands : (d e : Draft) (lines : List (List ℕ)) (line : List ℕ) → Has
 unfolding after_title
 title_stands d e lines line has is =
     let p = passed (bytes_eq line (codes "mtgui 1")) (record d { stage = stage.Screen }) e (header_reason line) is in
-    subst (λ (x : Draft). Next x lines line) p.1 (push 0 1 d (record d { stage = stage.Screen }) lines (line ∷ []) Title has (refl, ap (λ (l : List ℕ). l ∷ []) (named line (codes "mtgui 1") p.0)) refl refl)
+    subst (λ (x : Draft). Next x lines line) p.1 (push 0 1 d (record d { stage = stage.Screen }) lines (line ∷ []) Title has (refl, ap (λ (l : List ℕ). l ∷ []) (named line (codes "mtgui 1") p.0)) refl)
 
 screen_stands : (d e : Draft) (lines : List (List ℕ)) (line : List ℕ) → HasItems 1 d lines → after_screen d line ≡ Ok e → Next e lines line
 unfolding after_screen screen_in
 screen_stands d e lines line has is =
-    let v = valued (screen_in (words_of line)) (header_reason line) (λ sides. record d { stage = stage.Buffers; width = sides.0; height = sides.1.0 }) e is in
+    let v = valued (screen_in (words_of line)) (header_reason line) (λ sides. staged stage.Buffers (record d.said { width = sides.0; height = sides.1.0 })) e is in
     let t = line_values_take (codes "screen") screen_fields line v.0 v.1 in
-    subst (λ (x : Draft). Next x lines line) v.2 (push 1 2 d (record d { stage = stage.Buffers; width = v.0.0; height = v.0.1.0 }) lines (line ∷ []) (Screen v.0.0 v.0.1.0) has ((refl, ap (λ (l : List ℕ). l ∷ []) t.0), t.1) refl refl)
+    subst (λ (x : Draft). Next x lines line) v.2 (push 1 2 d (staged stage.Buffers (record d.said { width = v.0.0; height = v.0.1.0 })) lines (line ∷ []) (Screen v.0.0 v.0.1.0) has ((refl, ap (λ (l : List ℕ). l ∷ []) t.0), t.1) refl)
 
 buffers_stands : (d e : Draft) (lines : List (List ℕ)) (line : List ℕ) → HasItems 2 d lines → after_buffers d line ≡ Ok e → Next e lines line
 unfolding after_buffers
 buffers_stands d e lines line has is =
     let p = passed (bytes_eq line (codes "buffers 1")) (record d { stage = stage.Desktop }) e (header_reason line) is in
-    subst (λ (x : Draft). Next x lines line) p.1 (push 2 3 d (record d { stage = stage.Desktop }) lines (line ∷ []) Buffers has (refl, ap (λ (l : List ℕ). l ∷ []) (named line (codes "buffers 1") p.0)) refl refl)
-
-one_class_more : (header : ℕ) (d e : Draft) (c : ℕ) → e.classes ≡ d.classes ++ c ∷ [] → e.lines ≡ d.lines → ◌≡◌ {A = Before} (record { header = header; classes = length d.classes + 1; calls = length d.lines }) (before_at header e)
-one_class_more header d e c classes lines = ap (λ (n : ℕ). record { header = header; classes = n; calls = length d.lines }) (sym (length-append d.classes (c ∷ [])) ∙ ap length (sym classes)) ∙ ap (λ (ls : List Line). record { header = header; classes = length e.classes; calls = length ls }) (sym lines)
+    subst (λ (x : Draft). Next x lines line) p.1 (push 2 3 d (record d { stage = stage.Desktop }) lines (line ∷ []) Buffers has (refl, ap (λ (l : List ℕ). l ∷ []) (named line (codes "buffers 1") p.0)) refl)
 
 desktop_stands : (d e : Draft) (lines : List (List ℕ)) (line : List ℕ) → HasItems 3 d lines → after_desktop d line ≡ Ok e → Next e lines line
 unfolding after_desktop desktop_in
 desktop_stands d e lines line has is =
-    let v = valued (desktop_in (words_of line)) (header_reason line) (λ colour. record d { stage = stage.Body; classes = d.classes ++ colour.0 ∷ [] }) e is in
+    let v = valued (desktop_in (words_of line)) (header_reason line) (λ colour. staged stage.Body (with_desktop d.said colour.0)) e is in
     let t = line_values_take (codes "desktop") desktop_fields line v.0 v.1 in
-    let next : Draft = record d { stage = stage.Body; classes = d.classes ++ v.0.0 ∷ [] } in
-    subst (λ (x : Draft). Next x lines line) v.2 (push 3 4 d next lines (line ∷ []) (Desktop v.0.0) has ((refl, ap (λ (l : List ℕ). l ∷ []) t.0), t.1) (one_class_more 4 d next v.0.0 refl refl) refl)
+    subst (λ (x : Draft). Next x lines line) v.2 (push 3 4 d (staged stage.Body (with_desktop d.said v.0.0)) lines (line ∷ []) (Desktop v.0.0) has ((refl, ap (λ (l : List ℕ). l ∷ []) t.0), t.1) refl)
 
 -- the line `end` of a class
 block_stands : (d e : Draft) (lines : List (List ℕ)) (line : List ℕ) → HasClass d lines → after_block d line ≡ Ok e → Next e lines line
 unfolding after_block
 block_stands d e lines line has is =
     let p = passed (bytes_eq line (codes "end")) (record d { stage = stage.Body }) e (block_reason (words_of line)) is in
-    let first : List ℕ = class_text (length has.old.classes) has.back in
+    let first : List ℕ = class_text (length has.old.said.assets.classes) has.back in
     let next : Draft = record (opened has.old has.back) { stage = stage.Body } in
     let same : next ≡ e = ap (λ (x : Draft). record x { stage = stage.Body }) (sym has.is) ∙ p.1 in
     let block : List (List ℕ) = first ∷ has.body ++ codes "end" ∷ [] in
     let all : has.front ++ block ≡ lines ++ line ∷ [] =
     sym (append_assoc has.front (first ∷ has.body) (codes "end" ∷ [])) ∙ ap (λ (ls : List (List ℕ)). ls ++ codes "end" ∷ []) (sym has.parts) ∙ ap (λ (l : List ℕ). lines ++ l ∷ []) (sym (named line (codes "end") p.0)) in
     subst (λ (x : Draft). Next x lines line) same (subst (HasItems 4 next) all (push 4 4 has.old next has.front block (ClassOf has.back) has.has
-    (record { header = refl; early = has.early; counted = has.counted; body = has.body; comments = has.comments; spelled = refl }) (one_class_more 4 has.old next has.back refl refl) refl))
+    (record { early = record { header = refl; none = has.none }; counted = has.counted; body = has.body; comments = has.comments; spelled = refl }) refl))
+
+-- a line after which the draft stands between items again
+stands_in_body : (d e : Draft) (said : List (List ℕ)) → d.stage ≡ stage.Body → HasItems 4 e said → e.stage ≡ d.stage → Stands e said
+stands_in_body d e said body has same = subst (λ (s : Stage). StandsIn s e said) (sym (same ∙ body)) has
 
 -- a call line
-one_call_more : (d : Draft) (l : Line) → ◌≡◌ {A = Before} (record { header = 4; classes = length d.classes; calls = length d.lines + 1 }) (before_at 4 (record d { lines = d.lines ++ l ∷ [] }))
-one_call_more d l = ap (λ (n : ℕ). record { header = 4; classes = length d.classes; calls = n }) (sym (length-append d.lines (l ∷ [])))
-
 call_stands : (d e : Draft) (lines : List (List ℕ)) (line : List ℕ) (l : Line) → d.stage ≡ stage.Body → HasItems 4 d lines → line_of (words_of line) ≡ Some l → after_call d line (Some l) ≡ Ok e → Next e lines line
 call_stands d e lines line l body has read is =
-    let p = passed (ltb (length d.lines) 400000) (record d { lines = d.lines ++ l ∷ [] }) e reason.Many is in
-    let few : length d.lines < 400000 = ltb-true _ _ p.0 in
+    let next : Draft = record d { said = with_line d.said l } in
+    let p = passed (ltb (length d.said.lines) 400000) next e reason.Many is in
+    let few : length d.said.lines < 400000 = ltb-true _ _ p.0 in
     let t = line_read line l read in
-    let next : Draft = record d { lines = d.lines ++ l ∷ [] } in
-    subst (λ (x : Draft). Next x lines line) p.1 (subst (λ (s : Stage). StandsIn s next (lines ++ line ∷ [])) (sym body)
-    (push 4 4 d next lines (line ∷ []) (CallOf l) has (record { header = refl; few = omega arith; fits = t.1; spelled = ap (λ (x : List ℕ). x ∷ []) t.0 }) (one_call_more d l) refl))
+    subst (λ (x : Draft). Next x lines line) p.1 (stands_in_body d next (lines ++ line ∷ []) body
+    (push 4 4 d next lines (line ∷ []) (CallOf l) has (record { header = refl; few = omega arith; fits = t.1; spelled = ap (λ (x : List ℕ). x ∷ []) t.0 }) refl) refl)
 
 -- a class's first line
-opening_stands : (d e : Draft) (lines : List (List ℕ)) (line : List ℕ) (words : List (List ℕ)) (o : Option (Values class_fields)) → HasItems 4 d lines → length d.lines ≡ 0 → words_of line ≡ codes "class" ∷ words → class_in words ≡ o → after_opening d o ≡ Ok e → Next e lines line
+class_stands : (d e : Draft) (lines : List (List ℕ)) (line : List ℕ) (words : List (List ℕ)) (o : Option (Values class_fields)) → HasItems 4 d lines → length d.said.lines ≡ 0 → words_of line ≡ codes "class" ∷ words → class_in words ≡ o → after_class d o ≡ Ok e → Next e lines line
 unfolding class_in
-opening_stands d e lines line words None has early spelled read is = absurd cc
-opening_stands d e lines line words (Some vs) has early spelled read is =
-    let p = passed (eqb vs.0 (length d.classes)) (opened d vs.1.0) e reason.Asset is in
-    let number : vs.0 ≡ length d.classes = grind (arith, nat_tests, p.0) in
+class_stands d e lines line words None has none spelled read is = absurd cc
+class_stands d e lines line words (Some vs) has none spelled read is =
+    let p = passed (eqb vs.0 (length d.said.assets.classes)) (opened d vs.1.0) e reason.Asset is in
+    let number : vs.0 ≡ length d.said.assets.classes = grind (arith, nat_tests, p.0) in
     let t = values_take class_fields words vs read in
     let text : line ≡ class_text vs.0 vs.1.0 = line_from_words line (codes "class" ∷ texts_of class_fields vs) (spelled ∙ ap (λ (ws : List (List ℕ)). codes "class" ∷ ws) t.0) in
     subst (λ (x : Draft). Next x lines line) p.1 (record {
       old = d;
       front = lines;
       has = has;
-      early = early;
+      none = none;
       back = vs.1.0;
       counted = subst (λ (n : ℕ). AreIn class_fields (n, (vs.1.0, tt))) number t.1;
       is = refl;
@@ -190,24 +182,63 @@ opening_stands d e lines line words (Some vs) has early spelled read is =
       parts = ap (λ (l : List ℕ). lines ++ l ∷ []) (text ∙ ap (λ (n : ℕ). class_text n vs.1.0) number);
     })
 
-class_stands : (d e : Draft) (lines : List (List ℕ)) (line : List ℕ) (words : List (List ℕ)) → HasItems 4 d lines → words_of line ≡ codes "class" ∷ words → after_class d words ≡ Ok e → Next e lines line
-unfolding after_class
-class_stands d e lines line words has spelled is =
-    elim (chosen (is_later_class words) (Err reason.Later) (cond (eqb (length d.lines) 0) (after_opening d (class_in words)) (Err reason.Late)) (Ok e) is) [
+-- a string's line
+string_stands : (d e : Draft) (lines : List (List ℕ)) (line : List ℕ) (words : List (List ℕ)) (o : Option (ℕ × List ℕ)) → d.stage ≡ stage.Body → HasItems 4 d lines → length d.said.lines ≡ 0 → words_of line ≡ codes "string" ∷ words → string_in words ≡ o → after_string d o ≡ Ok e → Next e lines line
+string_stands d e lines line words None body has none spelled read is = absurd cc
+string_stands d e lines line words (Some x) body has none spelled read is =
+    let next : Draft = record d { said = with_string d.said x.1 } in
+    let p = passed (eqb x.0 (length d.said.assets.strings)) next e reason.Asset is in
+    let number : x.0 ≡ length d.said.assets.strings = grind (arith, nat_tests, p.0) in
+    let t = string_taken line words x spelled read in
+    let text : line ≡ string_text (length d.said.assets.strings) x.1 = t.0 ∙ ap (λ (n : ℕ). string_text n x.1) number in
+    subst (λ (x : Draft). Next x lines line) p.1 (stands_in_body d next (lines ++ line ∷ []) body
+    (push 4 4 d next lines (line ∷ []) (StringOf x.1) has (record { early = record { header = refl; none = none }; counted = subst (λ (n : ℕ). n ≤ 255) number t.1; is = t.2; spelled = ap (λ (l : List ℕ). l ∷ []) text }) refl) refl)
+
+pub at_odds : (b : Bool) → b ≡ true → b ≡ false → ⊥
+at_odds b is other = absurd (cc (sym is ∙ other))
+
+-- an asset's first word is that of a class or of a string
+pub string_word : (first : List ℕ) → is_one_of asset_words first ≡ true → bytes_eq first (codes "class") ≡ false → first ≡ codes "string"
+unfolding is_one_of asset_words
+string_word first is other =
+    elim (cases_Bool (bytes_eq (codes "string") first)) [
+      | inl same ↦ sym (named (codes "string") first same)
+      | inr differs ↦
+          elim (cases_Bool (bytes_eq (codes "class") first)) [
+            | inl same ↦ absurd (at_odds (bytes_eq first (codes "class")) (ap (λ (w : List ℕ). bytes_eq w (codes "class")) (sym (named (codes "class") first same)) ∙ same_name (codes "class")) other)
+            | inr also ↦ absurd (at_odds (is_one_of asset_words first) is (rw (differs, also) refl))
+          ]
+    ]
+
+early_stands : (d e : Draft) (lines : List (List ℕ)) (line first : List ℕ) (words : List (List ℕ)) → d.stage ≡ stage.Body → HasItems 4 d lines → length d.said.lines ≡ 0 → words_of line ≡ first ∷ words → is_one_of asset_words first ≡ true → after_early d first words ≡ Ok e → Next e lines line
+early_stands d e lines line first words body has none spelled asset is =
+    elim (chosen (bytes_eq first (codes "class")) (after_class d (class_in words)) (after_string d (string_in words)) (Ok e) is) [
+      | inl class ↦ class_stands d e lines line words (class_in words) has none (spelled ∙ ap (λ (w : List ℕ). w ∷ words) (named first (codes "class") class.0)) refl class.1
+      | inr string ↦ string_stands d e lines line words (string_in words) body has none (spelled ∙ ap (λ (w : List ℕ). w ∷ words) (string_word first asset string.0)) refl string.1
+    ]
+
+asset_stands : (d e : Draft) (lines : List (List ℕ)) (line first : List ℕ) (words : List (List ℕ)) → d.stage ≡ stage.Body → HasItems 4 d lines → words_of line ≡ first ∷ words → is_one_of asset_words first ≡ true → after_asset d first words ≡ Ok e → Next e lines line
+unfolding after_asset
+asset_stands d e lines line first words body has spelled asset is =
+    elim (chosen (bytes_eq first (codes "class") && is_later_class words) (Err reason.Later) (cond (eqb (length d.said.lines) 0) (after_early d first words) (Err reason.Late)) (Ok e) is) [
       | inl later ↦ absurd (cc later.1)
       | inr built ↦
-          elim (chosen (eqb (length d.lines) 0) (after_opening d (class_in words)) (Err reason.Late) (Ok e) built.1) [
-            | inl early ↦ opening_stands d e lines line words (class_in words) has (grind (arith, nat_tests, early.0)) spelled refl early.1
+          elim (chosen (eqb (length d.said.lines) 0) (after_early d first words) (Err reason.Late) (Ok e) built.1) [
+            | inl early ↦ early_stands d e lines line first words body has (grind (arith, nat_tests, early.0)) spelled asset early.1
             | inr late ↦ absurd (cc late.1)
           ]
     ]
 
-other_stands : (d e : Draft) (lines : List (List ℕ)) (line : List ℕ) (o : Option (List (List ℕ))) → HasItems 4 d lines → after_word (codes "class") (words_of line) ≡ o → after_other d line o ≡ Ok e → Next e lines line
-other_stands d e lines line None has read is = absurd cc
-other_stands d e lines line (Some words) has read is = class_stands d e lines line words has (after_word_takes (codes "class") (words_of line) words read) is
+other_stands : (d e : Draft) (lines : List (List ℕ)) (line : List ℕ) (words : List (List ℕ)) → d.stage ≡ stage.Body → HasItems 4 d lines → words_of line ≡ words → after_other d words ≡ Ok e → Next e lines line
+other_stands d e lines line [] body has spelled is = absurd cc
+other_stands d e lines line (first ∷ words) body has spelled is =
+    elim (chosen (is_one_of asset_words first) (after_asset d first words) (Err (call_reason first words)) (Ok e) is) [
+      | inl asset ↦ asset_stands d e lines line first words body has spelled asset.0 asset.1
+      | inr none ↦ absurd (cc none.1)
+    ]
 
 body_by : (d e : Draft) (lines : List (List ℕ)) (line : List ℕ) (o : Option Line) → d.stage ≡ stage.Body → HasItems 4 d lines → line_of (words_of line) ≡ o → after_call d line o ≡ Ok e → Next e lines line
-body_by d e lines line None body has read is = other_stands d e lines line (after_word (codes "class") (words_of line)) has refl is
+body_by d e lines line None body has read is = other_stands d e lines line (words_of line) body has refl is
 body_by d e lines line (Some l) body has read is = call_stands d e lines line l body has read is
 
 body_stands : (d e : Draft) (lines : List (List ℕ)) (line : List ℕ) → d.stage ≡ stage.Body → HasItems 4 d lines → after_body d line ≡ Ok e → Next e lines line
@@ -275,8 +306,7 @@ place_stands stage.Block d lines has = record {
   front = has.front;
   before = before_at 4 has.old;
   whole = record { items = has.has.items; spelled = has.has.spelled; before = has.has.before };
-  header = refl;
-  early = has.early;
+  early = record { header = refl; none = has.none };
   back = has.back;
   counted = has.counted;
   body = has.body;

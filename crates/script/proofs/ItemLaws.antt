@@ -16,7 +16,8 @@ use Rattle.calls.specs.declared.line.Line.{Line}
 use Rattle.calls.specs.declared.line.Line.TheVariants.{Task}
 use Rattle.calls.specs.Words.{text_of_line, words_of_call, LineFits}
 use Rattle.calls.proofs.CallerLemmas.{line_spelled, line_words_whole}
-use Rattle.script.specs.Scripts.{screen_fields, desktop_fields, class_fields, class_text, Item, Title, Screen, Buffers, Desktop, ClassOf, CallOf, Before, nothing, after, IsClassBlock, Spells, AreItemsOf, Script, script_for, listing_of, IsScript}
+use Rattle.script.specs.Scripts.{screen_fields, desktop_fields, class_fields, class_text, string_text, Item, Title, Screen, Buffers, Desktop, StringOf, ClassOf, CallOf, Before, nothing, after, IsStringBlock, IsClassBlock, Spells, AreItemsOf, Script, script_for, listing_of, IsScript}
+use Rattle.script.proofs.StringLaws.{string_words, string_same}
 
 -- ---- one text has one meaning
 
@@ -32,10 +33,11 @@ tag_of_word w =
     if bytes_eq w (codes "mtgui") then 0 else
     if bytes_eq w (codes "screen") then 1 else
     if bytes_eq w (codes "buffers") then 2 else
-    if bytes_eq w (codes "desktop") then 3 else 4
+    if bytes_eq w (codes "desktop") then 3 else
+    if bytes_eq w (codes "string") then 6 else 4
 
 abbrev tag_of_words : List (List ℕ) → ℕ
-tag_of_words [] = 6
+tag_of_words [] = 7
 tag_of_words (w ∷ ws) = tag_of_word w
 
 abbrev tag : Item → ℕ
@@ -45,6 +47,7 @@ tag Buffers = 2
 tag (Desktop colour) = 3
 tag (ClassOf back) = 4
 tag (CallOf l) = 5
+tag (StringOf text) = 6
 
 -- the first line tells the kind
 pub record Opens (item : Item) (block : List (List ℕ)) : Type 0 where
@@ -66,6 +69,12 @@ opens_with : (item : Item) (block more : List (List ℕ)) (name : List ℕ) (fs 
 opens_with item block more name fs vs whole fields are some other known is =
     record { line = text_with name fs vs; more = more; is = is; known = ap tag_of_words (words_with name fs vs whole fields are) ∙ known; shown = uncommented name (texts_of fs vs) some (omega arith) }
 
+opens_string : (b : Before) (text : List ℕ) (block : List (List ℕ)) → IsStringBlock b text block → Opens (StringOf text) block
+opens_string b text block is =
+    let number : ℕ = length b.said.assets.strings in
+    let known : tag_of_word (codes "string") ≡ 6 = rw (name_tag (codes "string") (lit< tt)) refl in
+    record { line = string_text number text; more = []; is = is.spelled; known = ap tag_of_words (string_words number text is.counted) ∙ known; shown = uncommented (codes "string") (decimal number ∷ text ∷ []) (lit< tt) (lit< tt) }
+
 opens_call : (l : Line) (block : List (List ℕ)) → LineFits l → block ≡ text_of_line l ∷ [] → Opens (CallOf l) block
 opens_call (Task task (act.Call c)) block fits is =
     let below : task ≤ 16 = fits.1 in
@@ -80,7 +89,8 @@ opens b Title block is = record { line = codes "mtgui 1"; more = []; is = is.1; 
 opens b (Screen w h) block is = opens_with (Screen w h) block [] (codes "screen") screen_fields (w, (h, tt)) refl refl is.1 (lit< tt) (lit< tt) (rw (name_tag (codes "screen") (lit< tt)) refl) is.0.1
 opens b Buffers block is = record { line = codes "buffers 1"; more = []; is = is.1; known = rw (name_tag (codes "buffers") (lit< tt)) refl; shown = refl }
 opens b (Desktop colour) block is = opens_with (Desktop colour) block [] (codes "desktop") desktop_fields (colour, tt) refl refl is.1 (lit< tt) (lit< tt) (rw (name_tag (codes "desktop") (lit< tt)) refl) is.0.1
-opens b (ClassOf back) block is = opens_with (ClassOf back) block (is.body ++ codes "end" ∷ []) (codes "class") class_fields (b.classes, (back, tt)) refl refl is.counted (lit< tt) (lit< tt) (rw (name_tag (codes "class") (lit< tt)) refl) is.spelled
+opens b (StringOf text) block is = opens_string b text block is
+opens b (ClassOf back) block is = opens_with (ClassOf back) block (is.body ++ codes "end" ∷ []) (codes "class") class_fields (length b.said.assets.classes, (back, tt)) refl refl is.counted (lit< tt) (lit< tt) (rw (name_tag (codes "class") (lit< tt)) refl) is.spelled
 opens b (CallOf l) block is = opens_call l block is.fits is.spelled
 
 -- ---- blocks
@@ -109,8 +119,9 @@ comments_no_end (line ∷ body) are = (no_end line are.0, comments_no_end body a
 
 classes_apart : (b : Before) (back other : ℕ) (xs bs ys cs : List (List ℕ)) → IsClassBlock b back xs → IsClassBlock b other bs → xs ++ ys ≡ bs ++ cs → (ClassOf back ≡ ClassOf other) × (ys ≡ cs)
 classes_apart b back other xs bs ys cs is also e =
-    let parts = to_end xs bs ys cs is.body also.body (class_text b.classes back) (class_text b.classes other) (comments_no_end is.body is.comments) (comments_no_end also.body also.comments) is.spelled also.spelled e in
-    let head = text_same (codes "class") class_fields (b.classes, (back, tt)) (b.classes, (other, tt)) refl refl is.counted also.counted parts.0 in
+    let number : ℕ = length b.said.assets.classes in
+    let parts = to_end xs bs ys cs is.body also.body (class_text number back) (class_text number other) (comments_no_end is.body is.comments) (comments_no_end also.body also.comments) is.spelled also.spelled e in
+    let head = text_same (codes "class") class_fields (number, (back, tt)) (number, (other, tt)) refl refl is.counted also.counted parts.0 in
     (ap (λ (vs : Values class_fields). ClassOf vs.1.0) head, parts.1)
 
 screens_apart : (w h w' h' : ℕ) → AreIn screen_fields (w, (h, tt)) → AreIn screen_fields (w', (h', tt)) → text_with (codes "screen") screen_fields (w, (h, tt)) ≡ text_with (codes "screen") screen_fields (w', (h', tt)) → Screen w h ≡ Screen w' h'
@@ -130,6 +141,9 @@ apart_by b Buffers Buffers xs bs ys cs kind is also e = (refl, (one_line xs bs y
 apart_by b (Desktop c) (Desktop d) xs bs ys cs kind is also e =
     let parts = one_line xs bs ys cs _ _ is.0.1 also.0.1 e in
     (desktops_apart c d is.1 also.1 parts.0, parts.1)
+apart_by b (StringOf text) (StringOf other) xs bs ys cs kind is also e =
+    let parts = one_line xs bs ys cs _ _ is.spelled also.spelled e in
+    (ap StringOf (string_same (length b.said.assets.strings) text other is.counted is.is also.is parts.0), parts.1)
 apart_by b (ClassOf back) (ClassOf other) xs bs ys cs kind is also e = classes_apart b back other xs bs ys cs is also e
 apart_by b (CallOf l) (CallOf m) xs bs ys cs kind is also e =
     let parts = one_line xs bs ys cs _ _ is.spelled also.spelled e in

@@ -1,4 +1,6 @@
 pub mod CallerLemmas
+mod StringLaws
+mod AssetLemmas
 mod ItemLaws
 mod DraftLaws
 mod FrontLaws

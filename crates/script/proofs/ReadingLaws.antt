@@ -1,12 +1,11 @@
 -- The laws of files: each is one script or has one fault, and not both; and what is read is what the file says.
-use Rattle.std.proofs.Common.{◌≡◌, ℕ, ◌+◌, ◌<◌, ◌≤◌, Bool, true, false, cond, leb, List, [], ◌∷◌, ◌++◌, length, map, take, Option, Some, None, Result, Ok, Err, refl, sym, ap, subst, ◌∙◌, inl, inr, arith}
+use Rattle.std.proofs.Common.{◌≡◌, ℕ, ◌<◌, ◌≤◌, Bool, true, false, cond, leb, List, [], ◌∷◌, ◌++◌, length, take, Option, Some, None, Result, Ok, Err, refl, sym, ap, subst, ◌∙◌, inl, inr, arith}
 use Rattle.std.specs.Prelude.{IfOk, IfErr, MatchResult}
 use Rattle.std.specs.List.{AllByRecursion}
 use Rattle.std.proofs.lemmas.Bool.{leb-true}
 use Rattle.std.proofs.lemmas.Bool.Decides.{nat_tests}
-use Rattle.std.proofs.lemmas.List.{length-append, length-map, length-take, nil_from_length, take_all}
-use Rattle.paint_ops.specs.Kinds.{Assets}
-use Rattle.paint_ops.specs.Soundness.{IsClass, IsSound}
+use Rattle.std.proofs.lemmas.List.{length-append, length-take, nil_from_length, take_all}
+use Rattle.paint_ops.specs.Soundness.{IsSound}
 use Rattle.spelling.specs.Parts.{lines_of}
 use Rattle.spelling.specs.Items.{AreItems, all_after}
 use Rattle.spelling.specs.LineReading.{run, IsReading}
@@ -25,9 +24,10 @@ use Rattle.script.specs.declared.fault.Reason.TheVariants as reason
 use Rattle.script.specs.declared.fault.ScriptFault.{ScriptFault}
 use Rattle.script.specs.declared.fault.ScriptRefused.{ScriptRefused}
 use Rattle.script.specs.declared.fault.ScriptRefused.TheVariants as read_error
-use Rattle.script.specs.Scripts.{Item, Title, Screen, Buffers, Desktop, ClassOf, CallOf, Before, nothing, after, after_items, Spells, AreItemsOf, Listing, empty_listing, listing_with, listing_of, plain_class, plain_assets, Script, script_for, IsScript, IsNoScript, IsReady}
+use Rattle.script.specs.Scripts.{Item, Title, Screen, Buffers, Desktop, StringOf, ClassOf, CallOf, Before, nothing, after, after_items, Spells, AreItemsOf, listing_of, plain_class, Script, script_for, IsScript, IsNoScript, IsReady}
 use Rattle.script.specs.Faults.{Between, IsFront, Why, why_cut, IsFault, IsError}
-use Rattle.script.specs.Reading.{Draft, empty_draft, after_line, listing_from, place_at, place_of, from_line, read_of, Reads, Says}
+use Rattle.script.specs.Reading.{Draft, empty_draft, after_line, place_at, place_of, from_line, read_of, Reads, Says}
+use Rattle.script.proofs.AssetLemmas.{class_more, string_more}
 use Rattle.script.proofs.ItemLaws.{one_script}
 use Rattle.script.proofs.DraftLaws.{HasItems, StandsIn, front_read, printable_read, read_stands}
 use Rattle.script.proofs.FrontLaws.{front_reads}
@@ -43,118 +43,104 @@ reading = record {
 
 -- ---- what a script is ready for
 
--- what stands before, and what was said, lie in their ranges
-record IsGood (b : Before) (l : Listing) : Type 0 where
-  wide : 2 ≤ b.header → (1 ≤ l.width) × (l.width ≤ 1024)
-  high : 2 ≤ b.header → (1 ≤ l.height) × (l.height ≤ 768)
-  classes : length l.classes ≡ b.classes
-  early : b.header < 4 → b.classes ≡ 0
-  some : b.header ≡ 4 → 1 ≤ b.classes
-  few : b.classes ≤ 64
-  calls : length l.lines ≡ b.calls
-  few_calls : b.calls ≤ 400000
-  lines : AllByRecursion LineFits l.lines
+-- what the items say lies in its ranges
+record IsGood (b : Before) : Type 0 where
+  wide : 2 ≤ b.header → (1 ≤ b.said.width) × (b.said.width ≤ 1024)
+  high : 2 ≤ b.header → (1 ≤ b.said.height) × (b.said.height ≤ 768)
+  early : b.header < 4 → length b.said.assets.classes ≡ 0
+  some : b.header ≡ 4 → 1 ≤ length b.said.assets.classes
+  assets : IsSound b.said.assets
+  few_lines : length b.said.lines ≤ 400000
+  lines : AllByRecursion LineFits b.said.lines
 
-all_more : (ls : List Line) (l : Line) → AllByRecursion LineFits ls → LineFits l → AllByRecursion LineFits (ls ++ l ∷ [])
-all_more [] l all is = (is, tt)
-all_more (x ∷ ls) l all is = (all.0, all_more ls l all.1 is)
+lines_more : (ls : List Line) (l : Line) → AllByRecursion LineFits ls → LineFits l → AllByRecursion LineFits (ls ++ l ∷ [])
+lines_more [] l all is = (is, tt)
+lines_more (x ∷ ls) l all is = (all.0, lines_more ls l all.1 is)
 
-item_good : (item : Item) (b : Before) (l : Listing) (block : List (List ℕ)) → Spells b item block → IsGood b l → IsGood (after b item) (listing_with l item)
-item_good Title b l block is good = record {
+item_good : (item : Item) (b : Before) (block : List (List ℕ)) → Spells b item block → IsGood b → IsGood (after b item)
+item_good Title b block is good = record {
   wide = λ h. absurd (omega arith);
   high = λ h. absurd (omega arith);
-  classes = good.classes;
   early = λ h. good.early (omega (arith, is.0));
   some = λ h. absurd (omega arith);
-  few = good.few;
-  calls = good.calls;
-  few_calls = good.few_calls;
+  assets = good.assets;
+  few_lines = good.few_lines;
   lines = good.lines;
 }
-item_good (Screen w h) b l block is good = record {
+item_good (Screen w h) b block is good = record {
   wide = λ k. is.1.0;
   high = λ k. is.1.1.0;
-  classes = good.classes;
   early = λ k. good.early (omega (arith, is.0.0));
   some = λ k. absurd (omega arith);
-  few = good.few;
-  calls = good.calls;
-  few_calls = good.few_calls;
+  assets = good.assets;
+  few_lines = good.few_lines;
   lines = good.lines;
 }
-item_good Buffers b l block is good = record {
+item_good Buffers b block is good = record {
   wide = λ h. good.wide (omega (arith, is.0));
   high = λ h. good.high (omega (arith, is.0));
-  classes = good.classes;
   early = λ h. good.early (omega (arith, is.0));
   some = λ h. absurd (omega arith);
-  few = good.few;
-  calls = good.calls;
-  few_calls = good.few_calls;
+  assets = good.assets;
+  few_lines = good.few_lines;
   lines = good.lines;
 }
-item_good (Desktop c) b l block is good = record {
-  wide = λ h. good.wide (omega (arith, is.0.0));
-  high = λ h. good.high (omega (arith, is.0.0));
-  classes = length-append l.classes (c ∷ []) ∙ ap (λ (n : ℕ). n + 1) good.classes;
-  early = λ h. absurd (omega arith);
-  some = λ h. omega arith;
-  few = let none = good.early (omega (arith, is.0.0)) in omega arith;
-  calls = good.calls;
-  few_calls = good.few_calls;
-  lines = good.lines;
-}
-item_good (ClassOf back) b l block is good = record {
+item_good (Desktop c) b block is good =
+    let none = good.early (omega (arith, is.0.0)) in
+    let count = length-append b.said.assets.classes (plain_class c ∷ []) in
+    record {
+      wide = λ h. good.wide (omega (arith, is.0.0));
+      high = λ h. good.high (omega (arith, is.0.0));
+      early = λ h. absurd (omega arith);
+      some = λ h. omega arith;
+      assets = class_more b.said.assets c good.assets (omega arith);
+      few_lines = good.few_lines;
+      lines = good.lines;
+    }
+item_good (StringOf text) b block is good = record {
   wide = good.wide;
   high = good.high;
-  classes = length-append l.classes (back ∷ []) ∙ ap (λ (n : ℕ). n + 1) good.classes;
-  early = λ h. absurd (omega (arith, is.header));
-  some = λ h. omega arith;
-  few = let below = is.counted.0.1 in omega arith;
-  calls = good.calls;
-  few_calls = good.few_calls;
-  lines = good.lines;
-}
-item_good (CallOf line) b l block is good = record {
-  wide = good.wide;
-  high = good.high;
-  classes = good.classes;
   early = good.early;
   some = good.some;
-  few = good.few;
-  calls = length-append l.lines (line ∷ []) ∙ ap (λ (n : ℕ). n + 1) good.calls;
-  few_calls = is.few;
-  lines = all_more l.lines line good.lines is.fits;
+  assets = string_more b.said.assets text good.assets is.counted;
+  few_lines = good.few_lines;
+  lines = good.lines;
+}
+item_good (ClassOf back) b block is good =
+    let below = is.counted.0.1 in
+    let count = length-append b.said.assets.classes (plain_class back ∷ []) in
+    record {
+      wide = good.wide;
+      high = good.high;
+      early = λ h. absurd (omega (arith, is.early.header));
+      some = λ h. omega arith;
+      assets = class_more b.said.assets back good.assets below;
+      few_lines = good.few_lines;
+      lines = good.lines;
+    }
+item_good (CallOf line) b block is good = record {
+  wide = good.wide;
+  high = good.high;
+  early = good.early;
+  some = good.some;
+  assets = good.assets;
+  few_lines = let few = is.few in let count = length-append b.said.lines (line ∷ []) in omega arith;
+  lines = lines_more b.said.lines line good.lines is.fits;
 }
 
-items_good : (items : List Item) (b : Before) (l : Listing) (xs : List (List ℕ)) → AreItems Spells after b items xs → IsGood b l → IsGood (all_after after b items) (all_after listing_with l items)
-items_good [] b l xs are good = good
-items_good (item ∷ items) b l xs are good = items_good items (after b item) (listing_with l item) are.2 are.6 (item_good item b l are.1 are.5 good)
+items_good : (items : List Item) (b : Before) (xs : List (List ℕ)) → AreItems Spells after b items xs → IsGood b → IsGood (all_after after b items)
+items_good [] b xs are good = good
+items_good (item ∷ items) b xs are good = items_good items (after b item) are.2 are.6 (item_good item b are.1 are.5 good)
 
-nothing_good : IsGood nothing empty_listing
+nothing_good : IsGood nothing
 nothing_good = record {
   wide = λ h. absurd (omega arith);
   high = λ h. absurd (omega arith);
-  classes = refl;
   early = λ h. refl;
   some = λ h. absurd (omega arith);
-  few = omega arith;
-  calls = refl;
-  few_calls = omega arith;
+  assets = record { few_classes = omega arith; few_fonts = omega arith; few_bitmaps = omega arith; few_strings = omega arith; classes = tt };
+  few_lines = omega arith;
   lines = tt;
-}
-
-plain_classes : (assets : Assets) (classes : List ℕ) → AllByRecursion (IsClass assets) (map plain_class classes)
-plain_classes assets [] = tt
-plain_classes assets (c ∷ cs) = (record { few_ops = omega arith; few_reactions = omega arith; ops = tt; reactions = tt }, plain_classes assets cs)
-
-sound-plain : (classes : List ℕ) → length classes ≤ 64 → IsSound (plain_assets classes)
-sound-plain classes few = record {
-  few_classes = let same = length-map classes plain_class in omega arith;
-  few_fonts = omega arith;
-  few_bitmaps = omega arith;
-  few_strings = omega arith;
-  classes = plain_classes (plain_assets classes) classes;
 }
 
 task_fits : (task : ℕ) → 1 ≤ task → task ≤ 16 → is_task task ≡ true
@@ -169,23 +155,16 @@ lines_fit (line ∷ ls) fits = (line_fits line fits.0, lines_fit ls fits.1)
 
 ready : (items : List Item) (xs : List (List ℕ)) → AreItemsOf items xs → (after_items items).header ≡ 4 → IsReady (script_for (listing_of items))
 ready items xs are header =
-    let good = items_good items nothing empty_listing xs are nothing_good in
-    let l : Listing = listing_of items in
-    let same = length-map l.classes plain_class in
-    let classes = good.classes in
-    let some = good.some header in
-    let few = good.few in
-    let calls = good.calls in
-    let few_calls = good.few_calls in
+    let good = items_good items nothing xs are nothing_good in
     record {
       width = good.wide (omega arith);
       height = good.high (omega arith);
       buffers = refl;
       calls = refl;
-      few_lines = omega arith;
-      has_desktop = omega arith;
-      assets = sound-plain l.classes (omega arith);
-      lines = lines_fit l.lines good.lines;
+      few_lines = good.few_lines;
+      has_desktop = good.some header;
+      assets = good.assets;
+      lines = lines_fit (listing_of items).lines good.lines;
     }
 
 pub script_ready : (file : List ℕ) (s : Script) → IsScript file s → IsReady s
@@ -202,7 +181,7 @@ may_end stage.Desktop d xs stands none = absurd cc
 may_end stage.Body d xs stands none = stands
 may_end stage.Block d xs stands none = absurd cc
 
-script_of : (file : List ℕ) (d : Draft) → length file ≤ 100663296 → run after_line empty_draft (lines_of file) ≡ Ok d → why_cut (place_of d) ≡ None → IsScript file (script_for (listing_from d))
+script_of : (file : List ℕ) (d : Draft) → length file ≤ 100663296 → run after_line empty_draft (lines_of file) ≡ Ok d → why_cut (place_of d) ≡ None → IsScript file (script_for d.said)
 script_of file d short read none =
     let has = may_end d.stage d (lines_of file) (read_stands d (lines_of file) read) none in
     record {
@@ -211,7 +190,7 @@ script_of file d short read none =
       spelled = has.spelled;
       header = ap (λ (b : Before). b.header) has.before;
       short = short;
-      is = ap script_for (sym has.said);
+      is = ap (λ (b : Before). script_for b.said) (sym has.before);
     }
 
 abbrev SaysOf : List ℕ → Result Draft (ℕ × Reason) → Type 0
@@ -222,7 +201,7 @@ lines_say file = lines.read_says after_line empty_draft place_of IsFront Why why
 
 -- what was read of a file
 abbrev Describes : List ℕ → Result Draft (ℕ × Reason) → Type 0
-Describes file (Ok d) = IsScript file (script_for (listing_from d))
+Describes file (Ok d) = IsScript file (script_for d.said)
 Describes file (Err fault) = IsFault file (record { line = fault.0; why = fault.1 })
 
 describes : (file : List ℕ) (r : Result Draft (ℕ × Reason)) → length file ≤ 100663296 → SaysOf file r → Describes file r
@@ -251,7 +230,7 @@ no_script_with_fault file fault (inr wrong) s is =
     lines.not_both after_line empty_draft place_of IsFront Why why_cut reading (lines_of file) (Between (after_items is.items)) fault.line fault.why (front_of file s is) (ends (after_items is.items) is.header) wrong.1
 
 fault_by : (file : List ℕ) (r : Result Draft (ℕ × Reason)) → Describes file r → IsNoScript file → (fault : ScriptFault) × IsFault file fault
-fault_by file (Ok d) is none = absurd (none (script_for (listing_from d)) is)
+fault_by file (Ok d) is none = absurd (none (script_for d.said) is)
 fault_by file (Err fault) is none = (record { line = fault.0; why = fault.1 }, is)
 
 pub fault_of : (file : List ℕ) → IsNoScript file → (fault : ScriptFault) × IsFault file fault
@@ -295,15 +274,12 @@ only_script file (Err read_error.Memory) s h is = refl
 only_script file (Err (read_error.Fault fault)) s h is = absurd (no_script_with_fault file fault (subst (Describes file) h (file_says file)) s is)
 
 -- where all lines were read, outside a block, the draft is a script's
-pub whole_ready : (file rest : List ℕ) (n : ℕ) (d : Draft) → length rest ≡ 0 → d.stage ≡ stage.Body → from_line n d (lines_of rest) ≡ read_of file → (1 ≤ length d.classes) × (length d.lines ≤ 400000)
+pub whole_ready : (file rest : List ℕ) (n : ℕ) (d : Draft) → length rest ≡ 0 → d.stage ≡ stage.Body → from_line n d (lines_of rest) ≡ read_of file → length d.said.lines ≤ 400000
 whole_ready file rest n d empty at read =
     let none : lines_of rest ≡ [] = ap lines_of (nil_from_length rest empty) in
     let cut : why_cut (place_of d) ≡ None = ap (λ (s : Stage). why_cut (place_at s d)) at in
     let all : read_of file ≡ Ok d = sym read ∙ ap (from_line n d) none ∙ ended n d (why_cut (place_of d)) cut in
-    let is = script_ready file (script_for (listing_from d)) (subst (Describes file) all (file_says file)) in
-    let same = length-map d.classes plain_class in
-    let desktop = is.has_desktop in
-    (omega arith, is.few_lines)
+    (script_ready file (script_for d.said) (subst (Describes file) all (file_says file))).few_lines
   where
     ended : (n : ℕ) (d : Draft) (o : Option Reason) → o ≡ None → Rattle.spelling.specs.LineReading.ended n o d ≡ Ok d
     ended n d None e = refl

@@ -1,16 +1,16 @@
 -- Why a draft doesn't take a line: the first reason that may be held against it.
-use Rattle.std.proofs.Common.{◌≡◌, ℕ, ◌<◌, ◌≤◌, Bool, true, false, cond, ◌&&◌, ◌||◌, eqb, ltb, List, [], ◌∷◌, ◌++◌, length, get_or, Option, Some, None, Ok, Err, refl, sym, ap, subst, ◌∙◌, inl, inr, arith, lit<}
+use Rattle.std.proofs.Common.{◌≡◌, ℕ, ◌<◌, ◌≤◌, Bool, true, false, cond, ◌&&◌, ◌||◌, eqb, ltb, List, [], ◌∷◌, length, get_or, Option, Some, None, Ok, Err, refl, sym, ap, subst, ◌∙◌, inl, inr, arith, lit<}
 use Rattle.std.specs.Prelude.{is_some, bytes_eq, codes}
 use Rattle.std.specs.Fmt.{decimal, digits}
 use Rattle.std.proofs.Math.Bool.{or-false}
-use Rattle.std.proofs.lemmas.Bool.{cases_Bool}
+use Rattle.std.proofs.lemmas.Bool.{cases_Bool, and_parts}
 use Rattle.std.proofs.lemmas.Bool.Decides.{nat_tests}
 use Rattle.std.proofs.lemmas.Option.{none-some}
 use Rattle.spelling.specs.Parts.{is_printable}
-use Rattle.spelling.specs.Words.{words_of, after_word, begins_with, natural_in}
+use Rattle.spelling.specs.Words.{words_of, natural_in}
 use Rattle.spelling.specs.Fields.{Values}
 use Rattle.spelling.specs.Items.{is_comment}
-use Rattle.spelling.proofs.CallerLemmas.{chosen, named, after_word_takes, no_natural_in, natural_in_again, one_first}
+use Rattle.spelling.proofs.CallerLemmas.{chosen, named, same_name, no_natural_in, natural_in_again, one_first}
 use Rattle.calls.specs.declared.call.Call.{Call}
 use Rattle.calls.specs.declared.call.Call.TheVariants as call
 use Rattle.calls.specs.declared.line.Act.TheVariants as act
@@ -22,13 +22,13 @@ use Rattle.script.specs.declared.draft.Stage.{Stage}
 use Rattle.script.specs.declared.draft.Stage.TheVariants as stage
 use Rattle.script.specs.declared.fault.Reason.{Reason}
 use Rattle.script.specs.declared.fault.Reason.TheVariants as reason
-use Rattle.script.specs.Fields.{class_in}
-use Rattle.script.specs.Later.{is_one_of, begins_with_one_of, later_words, later_in_block, later_calls, is_later_class, is_later_call}
-use Rattle.script.specs.Scripts.{Before, class_fields}
-use Rattle.script.specs.Faults.{Place, Between, InClass, is_later, is_later_in_header, is_later_elsewhere, IsCallLine, opens_class, Holds, rank, Why}
-use Rattle.script.specs.Reading.{Draft, after_value, after_title, after_screen, after_buffers, after_desktop, after_block, after_opening, after_class, after_other, after_call, after_body, after_words, after_line, before_at, place_at, place_of, header_reason, block_reason, call_reason}
+use Rattle.script.specs.Fields.{class_in, string_in}
+use Rattle.script.specs.Later.{is_one_of, begins_with_one_of, asset_words, later_words, later_in_block, later_calls, is_later_class, is_later_call}
+use Rattle.script.specs.Scripts.{Before, class_fields, with_string, with_line, with_desktop}
+use Rattle.script.specs.Faults.{Place, Between, InClass, is_later, is_later_in_header, is_later_elsewhere, IsCallLine, opens_asset, Holds, rank, Why}
+use Rattle.script.specs.Reading.{Draft, after_value, after_title, after_screen, after_buffers, after_desktop, after_block, after_class, after_string, after_early, after_asset, after_other, after_call, after_body, after_words, after_line, staged, opened, before_at, place_at, place_of, header_reason, block_reason, call_reason}
 use Rattle.script.specs.Fields.{screen_in, desktop_in}
-use Rattle.script.proofs.DraftLaws.{opened}
+use Rattle.script.proofs.DraftLaws.{at_odds, string_word}
 
 -- ---- forms that are built
 
@@ -42,7 +42,7 @@ not_named n name some few first =
 task_is_built : (n : ℕ) → 1 ≤ n → n ≤ 16 → is_one_of later_words (decimal n) ≡ false
 unfolding is_one_of later_words
 task_is_built n some few =
-    rw (not_named n (codes "font") some few (lit< tt), not_named n (codes "bitmap") some few (lit< tt), not_named n (codes "string") some few (lit< tt), not_named n (codes "display") some few (lit< tt), not_named n (codes "viewer") some few (lit< tt), not_named n (codes "done") some few (lit< tt)) refl
+    rw (not_named n (codes "font") some few (lit< tt), not_named n (codes "bitmap") some few (lit< tt), not_named n (codes "display") some few (lit< tt), not_named n (codes "viewer") some few (lit< tt), not_named n (codes "done") some few (lit< tt)) refl
 
 -- no word of the table is among those that aren't built
 call_is_built : (c : Call) → is_later_call (words_of_call c) ≡ false
@@ -53,34 +53,48 @@ call_is_built c = refl
 class_is_no_task : natural_in 1 16 (codes "class") ≡ None
 class_is_no_task = no_natural_in 1 16 (codes "class") (lit< tt)
 
-task_is_no_class : (task : ℕ) → 1 ≤ task → task ≤ 16 → bytes_eq (decimal task) (codes "class") ≡ false
-task_is_no_class task some few =
-    elim (cases_Bool (bytes_eq (decimal task) (codes "class"))) [
-      | inl same ↦ absurd (none-some task (sym class_is_no_task ∙ ap (natural_in 1 16) (sym (named (decimal task) (codes "class") same)) ∙ natural_in_again 1 16 task some few (lit< tt)))
-      | inr other ↦ other
+string_is_no_task : natural_in 1 16 (codes "string") ≡ None
+string_is_no_task = no_natural_in 1 16 (codes "string") (lit< tt)
+
+not_class : (w : List ℕ) → bytes_eq (codes "class") w ≡ false → bytes_eq w (codes "class") ≡ false
+not_class w other =
+    elim (cases_Bool (bytes_eq w (codes "class"))) [
+      | inl same ↦ absurd (at_odds (bytes_eq (codes "class") w) (ap (bytes_eq (codes "class")) (named w (codes "class") same) ∙ same_name (codes "class")) other)
+      | inr differs ↦ differs
     ]
+
+task_is_no_class : (task : ℕ) → 1 ≤ task → task ≤ 16 → bytes_eq (decimal task) (codes "class") ≡ false
+task_is_no_class task some few = not_class (decimal task) (not_named task (codes "class") some few (lit< tt))
+
+task_is_no_asset : (task : ℕ) → 1 ≤ task → task ≤ 16 → is_one_of asset_words (decimal task) ≡ false
+unfolding is_one_of asset_words
+task_is_no_asset task some few = rw (not_named task (codes "string") some few (lit< tt), not_named task (codes "class") some few (lit< tt)) refl
 
 words_are_built : (l : Line) → LineFits l → is_later_elsewhere (line_words l) ≡ false
 words_are_built (Task task (act.Call c)) fits =
     rw (task_is_built task fits.0 fits.1, task_is_no_class task fits.0 fits.1, natural_in_again 1 16 task fits.0 fits.1 (lit< tt), call_is_built c) refl
 
-words_open_no_class : (l : Line) → LineFits l → begins_with (codes "class") (line_words l) ≡ false
-words_open_no_class (Task task (act.Call c)) fits = task_is_no_class task fits.0 fits.1
+words_open_no_asset : (l : Line) → LineFits l → begins_with_one_of asset_words (line_words l) ≡ false
+words_open_no_asset (Task task (act.Call c)) fits = task_is_no_asset task fits.0 fits.1
 
--- a call line is of a built form, and opens no class
+-- a call line is of a built form, and opens no asset
 line_is_built : (text : List ℕ) (l : Line) → line_of (words_of text) ≡ Some l → is_later_elsewhere (words_of text) ≡ false
 line_is_built text l read =
     let t = line_read text l read in
     ap (λ (x : List ℕ). is_later_elsewhere (words_of x)) t.0 ∙ ap is_later_elsewhere (line_words_whole l t.1) ∙ words_are_built l t.1
 
-line_opens_no_class : (text : List ℕ) (l : Line) → line_of (words_of text) ≡ Some l → opens_class text ≡ false
-line_opens_no_class text l read =
+line_opens_no_asset : (text : List ℕ) (l : Line) → line_of (words_of text) ≡ Some l → opens_asset text ≡ false
+line_opens_no_asset text l read =
     let t = line_read text l read in
-    ap (λ (x : List ℕ). begins_with (codes "class") (words_of x)) t.0 ∙ ap (begins_with (codes "class")) (line_words_whole l t.1) ∙ words_open_no_class l t.1
+    ap (λ (x : List ℕ). begins_with_one_of asset_words (words_of x)) t.0 ∙ ap (begins_with_one_of asset_words) (line_words_whole l t.1) ∙ words_open_no_asset l t.1
 
 class_word_is_built : is_one_of later_words (codes "class") ≡ false
 unfolding is_one_of later_words
 class_word_is_built = refl
+
+string_word_is_built : is_one_of later_words (codes "string") ≡ false
+unfolding is_one_of later_words
+string_word_is_built = refl
 
 class_later : (fields : List (List ℕ)) → is_later_class fields ≡ true → is_later_elsewhere (codes "class" ∷ fields) ≡ true
 class_later fields later = rw (class_word_is_built, later) refl
@@ -88,10 +102,25 @@ class_later fields later = rw (class_word_is_built, later) refl
 class_built : (fields : List (List ℕ)) → is_later_class fields ≡ false → is_later_elsewhere (codes "class" ∷ fields) ≡ false
 class_built fields built = rw (class_word_is_built, built, class_is_no_task) refl
 
--- ---- the first reason at each place
+string_built : (fields : List (List ℕ)) → is_later_elsewhere (codes "string" ∷ fields) ≡ false
+string_built fields = rw (string_word_is_built, string_is_no_task) refl
 
-at_odds : (b : Bool) → b ≡ true → b ≡ false → ⊥
-at_odds b is other = absurd (cc (sym is ∙ other))
+-- what an asset's words are
+asset_later : (first : List ℕ) (words : List (List ℕ)) → (bytes_eq first (codes "class") && is_later_class words) ≡ true → is_later_elsewhere (first ∷ words) ≡ true
+asset_later first words is =
+    let parts = and_parts (bytes_eq first (codes "class")) (is_later_class words) is in
+    ap (λ (w : List ℕ). is_later_elsewhere (w ∷ words)) (named first (codes "class") parts.0) ∙ class_later words parts.1
+
+asset_built : (first : List ℕ) (words : List (List ℕ)) → is_one_of asset_words first ≡ true → (bytes_eq first (codes "class") && is_later_class words) ≡ false → is_later_elsewhere (first ∷ words) ≡ false
+asset_built first words asset is =
+    elim (cases_Bool (bytes_eq first (codes "class"))) [
+      | inl class ↦
+          let built : is_later_class words ≡ false = sym (ap (λ (b : Bool). b && is_later_class words) class) ∙ is in
+          ap (λ (w : List ℕ). is_later_elsewhere (w ∷ words)) (named first (codes "class") class) ∙ class_built words built
+      | inr other ↦ ap (λ (w : List ℕ). is_later_elsewhere (w ∷ words)) (string_word first asset other) ∙ string_built words
+    ]
+
+-- ---- the first reason at each place
 
 ascii_first : (place : Place) (line : List ℕ) → is_printable line ≡ false → Why place line reason.Ascii
 ascii_first (Between b) line bad = (bad, earlier) where
@@ -134,7 +163,7 @@ header_first b line printable built header = (header, earlier) where
 
 -- after the header
 module _ (b : Before) (line : List ℕ) (printable : is_printable line ≡ true) (built : is_later (Between b) line ≡ false) (header : b.header ≡ 4) where
-  late_first : opens_class line ≡ true → 0 < b.calls → Why (Between b) line reason.Late
+  late_first : opens_asset line ≡ true → 0 < length b.said.lines → Why (Between b) line reason.Late
   late_first opens some = ((header, opens, some), earlier) where
     earlier : (e : Reason) → rank e < 5 → Holds (Between b) line e → ⊥
     earlier reason.TooLarge less h = h
@@ -144,7 +173,7 @@ module _ (b : Before) (line : List ℕ) (printable : is_printable line ≡ true)
     earlier reason.Block less h = h
     earlier e less h = absurd (omega arith)
 
-  asset_first : opens_class line ≡ true → b.calls ≡ 0 → Why (Between b) line reason.Asset
+  asset_first : opens_asset line ≡ true → length b.said.lines ≡ 0 → Why (Between b) line reason.Asset
   asset_first opens none = ((header, opens), earlier) where
     earlier : (e : Reason) → rank e < 6 → Holds (Between b) line e → ⊥
     earlier reason.TooLarge less h = h
@@ -155,7 +184,7 @@ module _ (b : Before) (line : List ℕ) (printable : is_printable line ≡ true)
     earlier reason.Late less h = absurd (omega (arith, h.2, none))
     earlier e less h = absurd (omega arith)
 
-  call_first : opens_class line ≡ false → (IsCallLine line → ⊥) → Why (Between b) line reason.Call
+  call_first : opens_asset line ≡ false → (IsCallLine line → ⊥) → Why (Between b) line reason.Call
   call_first closed none = ((header, none), earlier) where
     earlier : (e : Reason) → rank e < 7 → Holds (Between b) line e → ⊥
     earlier reason.TooLarge less h = h
@@ -163,11 +192,11 @@ module _ (b : Before) (line : List ℕ) (printable : is_printable line ≡ true)
     earlier reason.Later less h = at_odds (is_later (Between b) line) h built
     earlier reason.Header less h = absurd (omega (arith, h, header))
     earlier reason.Block less h = h
-    earlier reason.Late less h = at_odds (opens_class line) h.1 closed
-    earlier reason.Asset less h = at_odds (opens_class line) h.1 closed
+    earlier reason.Late less h = at_odds (opens_asset line) h.1 closed
+    earlier reason.Asset less h = at_odds (opens_asset line) h.1 closed
     earlier e less h = absurd (omega arith)
 
-  many_first : opens_class line ≡ false → IsCallLine line → Why (Between b) line reason.Many
+  many_first : opens_asset line ≡ false → IsCallLine line → Why (Between b) line reason.Many
   many_first closed is = ((header, is), earlier) where
     earlier : (e : Reason) → rank e < 8 → Holds (Between b) line e → ⊥
     earlier reason.TooLarge less h = h
@@ -175,8 +204,8 @@ module _ (b : Before) (line : List ℕ) (printable : is_printable line ≡ true)
     earlier reason.Later less h = at_odds (is_later (Between b) line) h built
     earlier reason.Header less h = absurd (omega (arith, h, header))
     earlier reason.Block less h = h
-    earlier reason.Late less h = at_odds (opens_class line) h.1 closed
-    earlier reason.Asset less h = at_odds (opens_class line) h.1 closed
+    earlier reason.Late less h = at_odds (opens_asset line) h.1 closed
+    earlier reason.Asset less h = at_odds (opens_asset line) h.1 closed
     earlier reason.Call less h = h.1 is
     earlier e less h = absurd (omega arith)
 
@@ -208,7 +237,7 @@ title_why d line why printable is =
 screen_why : (d : Draft) (line : List ℕ) (why : Reason) → is_printable line ≡ true → after_screen d line ≡ Err why → Why (Between (before_at 1 d)) line why
 unfolding after_screen
 screen_why d line why printable is =
-    subst (Why (Between (before_at 1 d)) line) (valueless (screen_in (words_of line)) (header_reason line) (λ sides. record d { stage = stage.Buffers; width = sides.0; height = sides.1.0 }) why is) (header_why (before_at 1 d) line printable (lit< tt))
+    subst (Why (Between (before_at 1 d)) line) (valueless (screen_in (words_of line)) (header_reason line) (λ sides. staged stage.Buffers (record d.said { width = sides.0; height = sides.1.0 })) why is) (header_why (before_at 1 d) line printable (lit< tt))
 
 buffers_why : (d : Draft) (line : List ℕ) (why : Reason) → is_printable line ≡ true → after_buffers d line ≡ Err why → Why (Between (before_at 2 d)) line why
 unfolding after_buffers
@@ -218,7 +247,7 @@ buffers_why d line why printable is =
 desktop_why : (d : Draft) (line : List ℕ) (why : Reason) → is_printable line ≡ true → after_desktop d line ≡ Err why → Why (Between (before_at 3 d)) line why
 unfolding after_desktop
 desktop_why d line why printable is =
-    subst (Why (Between (before_at 3 d)) line) (valueless (desktop_in (words_of line)) (header_reason line) (λ colour. record d { stage = stage.Body; classes = d.classes ++ colour.0 ∷ [] }) why is) (header_why (before_at 3 d) line printable (lit< tt))
+    subst (Why (Between (before_at 3 d)) line) (valueless (desktop_in (words_of line)) (header_reason line) (λ colour. staged stage.Body (with_desktop d.said colour.0)) why is) (header_why (before_at 3 d) line printable (lit< tt))
 
 block_why : (d : Draft) (line : List ℕ) (why : Reason) → is_printable line ≡ true → after_block d line ≡ Err why → Why InClass line why
 unfolding after_block
@@ -228,64 +257,86 @@ block_why d line why printable is =
 
 -- ---- and after the header
 
-opening_why : (d : Draft) (o : Option (Values class_fields)) (why : Reason) → after_opening d o ≡ Err why → reason.Asset ≡ why
-opening_why d None why is = cc
-opening_why d (Some vs) why is = (refused (eqb vs.0 (length d.classes)) (opened d vs.1.0) reason.Asset why is).1
+class_why : (d : Draft) (o : Option (Values class_fields)) (why : Reason) → after_class d o ≡ Err why → reason.Asset ≡ why
+class_why d None why is = cc
+class_why d (Some vs) why is = (refused (eqb vs.0 (length d.said.assets.classes)) (opened d vs.1.0) reason.Asset why is).1
 
-class_why : (d : Draft) (line : List ℕ) (words : List (List ℕ)) (why : Reason) → is_printable line ≡ true → words_of line ≡ codes "class" ∷ words → after_class d words ≡ Err why → Why (Between (before_at 4 d)) line why
-unfolding after_class
-class_why d line words why printable spelled is =
+string_why : (d : Draft) (o : Option (ℕ × List ℕ)) (why : Reason) → after_string d o ≡ Err why → reason.Asset ≡ why
+string_why d None why is = cc
+string_why d (Some x) why is = (refused (eqb x.0 (length d.said.assets.strings)) (record d { said = with_string d.said x.1 }) reason.Asset why is).1
+
+early_why : (d : Draft) (first : List ℕ) (words : List (List ℕ)) (why : Reason) → after_early d first words ≡ Err why → reason.Asset ≡ why
+early_why d first words why is =
+    elim (chosen (bytes_eq first (codes "class")) (after_class d (class_in words)) (after_string d (string_in words)) (Err why) is) [
+      | inl class ↦ class_why d (class_in words) why class.1
+      | inr string ↦ string_why d (string_in words) why string.1
+    ]
+
+asset_why : (d : Draft) (line first : List ℕ) (words : List (List ℕ)) (why : Reason) → is_printable line ≡ true → words_of line ≡ first ∷ words → is_one_of asset_words first ≡ true → after_asset d first words ≡ Err why → Why (Between (before_at 4 d)) line why
+unfolding after_asset
+asset_why d line first words why printable spelled asset is =
     let b : Before = before_at 4 d in
-    let opens : opens_class line ≡ true = ap (begins_with (codes "class")) spelled in
-    elim (chosen (is_later_class words) (Err reason.Later) (cond (eqb (length d.lines) 0) (after_opening d (class_in words)) (Err reason.Late)) (Err why) is) [
+    let opens : opens_asset line ≡ true = ap (begins_with_one_of asset_words) spelled ∙ asset in
+    elim (chosen (bytes_eq first (codes "class") && is_later_class words) (Err reason.Later) (cond (eqb (length d.said.lines) 0) (after_early d first words) (Err reason.Late)) (Err why) is) [
       | inl later ↦
           let same : reason.Later ≡ why = cc (later.1) in
-          subst (Why (Between b) line) same (later_first (Between b) line printable (ap is_later_elsewhere spelled ∙ class_later words later.0))
+          subst (Why (Between b) line) same (later_first (Between b) line printable (ap is_later_elsewhere spelled ∙ asset_later first words later.0))
       | inr built ↦
-          let form : is_later (Between b) line ≡ false = ap is_later_elsewhere spelled ∙ class_built words built.0 in
-          elim (chosen (eqb (length d.lines) 0) (after_opening d (class_in words)) (Err reason.Late) (Err why) built.1) [
-            | inl early ↦ subst (Why (Between b) line) (opening_why d (class_in words) why early.1) (asset_first b line printable form refl opens (grind (arith, nat_tests, early.0)))
+          let form : is_later (Between b) line ≡ false = ap is_later_elsewhere spelled ∙ asset_built first words asset built.0 in
+          elim (chosen (eqb (length d.said.lines) 0) (after_early d first words) (Err reason.Late) (Err why) built.1) [
+            | inl early ↦ subst (Why (Between b) line) (early_why d first words why early.1) (asset_first b line printable form refl opens (grind (arith, nat_tests, early.0)))
             | inr late ↦
                 let same : reason.Late ≡ why = cc (late.1) in
                 subst (Why (Between b) line) same (late_first b line printable form refl opens (grind (arith, nat_tests, late.0)))
           ]
     ]
 
--- a line that is no call line, and opens no class
+-- a line that is no call line, and opens no asset
 or_false_between : (a c : Bool) → ((a || false) || c) ≡ (a || c)
 or_false_between a c = ap (λ (x : Bool). x || c) (or-false a)
 
-closed_words : (words : List (List ℕ)) → after_word (codes "class") words ≡ None → begins_with (codes "class") words ≡ false
-closed_words [] none = refl
-closed_words (first ∷ words) none =
-    elim (cases_Bool (bytes_eq first (codes "class"))) [
-      | inl same ↦ absurd (none-some words (sym none ∙ rw same refl))
-      | inr other ↦ other
+class_by_asset : (first : List ℕ) → is_one_of asset_words first ≡ false → bytes_eq first (codes "class") ≡ false
+unfolding is_one_of asset_words
+class_by_asset first none =
+    elim (cases_Bool (bytes_eq (codes "string") first)) [
+      | inl string ↦ absurd (at_odds (is_one_of asset_words first) (rw string refl) none)
+      | inr other ↦
+          elim (cases_Bool (bytes_eq (codes "class") first)) [
+            | inl class ↦ absurd (at_odds (is_one_of asset_words first) (rw (other, class) refl) none)
+            | inr differs ↦ not_class first differs
+          ]
     ]
 
-call_reason_is : (words : List (List ℕ)) → begins_with (codes "class") words ≡ false → call_reason words ≡ cond (is_later_elsewhere words) reason.Later reason.Call
-call_reason_is [] closed = refl
-call_reason_is (first ∷ words) closed = rw closed (ap (λ (b : Bool). cond b reason.Later reason.Call) (sym (or_false_between (is_one_of later_words first) (is_some (natural_in 1 16 first) && is_later_call words))))
+call_reason_is : (first : List ℕ) (words : List (List ℕ)) → is_one_of asset_words first ≡ false → call_reason first words ≡ cond (is_later_elsewhere (first ∷ words)) reason.Later reason.Call
+call_reason_is first words closed =
+    rw (class_by_asset first closed) (ap (λ (b : Bool). cond b reason.Later reason.Call) (sym (or_false_between (is_one_of later_words first) (is_some (natural_in 1 16 first) && is_later_call words))))
 
 no_call : (line : List ℕ) → line_of (words_of line) ≡ None → IsCallLine line → ⊥
 no_call line none is = none-some is.0 (sym none ∙ line_spelled line is.0 is.2 is.1)
 
-other_why : (d : Draft) (line : List ℕ) (o : Option (List (List ℕ))) (why : Reason) → is_printable line ≡ true → line_of (words_of line) ≡ None → after_word (codes "class") (words_of line) ≡ o → after_other d line o ≡ Err why → Why (Between (before_at 4 d)) line why
-other_why d line None why printable none read is =
+other_why : (d : Draft) (line : List ℕ) (words : List (List ℕ)) (why : Reason) → is_printable line ≡ true → line_of (words_of line) ≡ None → words_of line ≡ words → after_other d words ≡ Err why → Why (Between (before_at 4 d)) line why
+other_why d line [] why printable none spelled is =
     let b : Before = before_at 4 d in
-    let closed : opens_class line ≡ false = closed_words (words_of line) read in
-    let same : call_reason (words_of line) ≡ why = cc in
-    subst (Why (Between b) line) (sym (call_reason_is (words_of line) closed) ∙ same)
-    (by_test (Between b) line (is_later_elsewhere (words_of line)) reason.Later reason.Call (later_first (Between b) line printable) (λ built. call_first b line printable built refl closed (no_call line none)))
-other_why d line (Some words) why printable none read is = class_why d line words why printable (after_word_takes (codes "class") (words_of line) words read) is
+    let same : reason.Call ≡ why = cc in
+    subst (Why (Between b) line) same (call_first b line printable (ap is_later_elsewhere spelled) refl (ap (begins_with_one_of asset_words) spelled) (no_call line none))
+other_why d line (first ∷ words) why printable none spelled is =
+    let b : Before = before_at 4 d in
+    elim (chosen (is_one_of asset_words first) (after_asset d first words) (Err (call_reason first words)) (Err why) is) [
+      | inl asset ↦ asset_why d line first words why printable spelled asset.0 asset.1
+      | inr closed ↦
+          let same : call_reason first words ≡ why = cc (closed.1) in
+          let form : is_later (Between b) line ≡ is_later_elsewhere (first ∷ words) = ap is_later_elsewhere spelled in
+          subst (Why (Between b) line) (sym (call_reason_is first words closed.0) ∙ same)
+          (by_test (Between b) line (is_later_elsewhere (first ∷ words)) reason.Later reason.Call (λ later. later_first (Between b) line printable (form ∙ later)) (λ built. call_first b line printable (form ∙ built) refl (ap (begins_with_one_of asset_words) spelled ∙ closed.0) (no_call line none)))
+    ]
 
 body_why : (d : Draft) (line : List ℕ) (o : Option Line) (why : Reason) → is_printable line ≡ true → line_of (words_of line) ≡ o → after_call d line o ≡ Err why → Why (Between (before_at 4 d)) line why
-body_why d line None why printable read is = other_why d line (after_word (codes "class") (words_of line)) why printable read refl is
+body_why d line None why printable read is = other_why d line (words_of line) why printable read refl is
 body_why d line (Some l) why printable read is =
     let b : Before = before_at 4 d in
     let t = line_read line l read in
-    subst (Why (Between b) line) (refused (ltb (length d.lines) 400000) (record d { lines = d.lines ++ l ∷ [] }) reason.Many why is).1
-    (many_first b line printable (line_is_built line l read) refl (line_opens_no_class line l read) (l, t.1, t.0))
+    subst (Why (Between b) line) (refused (ltb (length d.said.lines) 400000) (record d { said = with_line d.said l }) reason.Many why is).1
+    (many_first b line printable (line_is_built line l read) refl (line_opens_no_asset line l read) (l, t.1, t.0))
 
 call_why : (d : Draft) (line : List ℕ) (why : Reason) → is_printable line ≡ true → after_body d line ≡ Err why → Why (Between (before_at 4 d)) line why
 unfolding after_body

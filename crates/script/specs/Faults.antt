@@ -2,7 +2,7 @@
 use Rattle.std.specs.Prelude.{◌≡◌, ◌⊎◌, ℕ, ◌<◌, ◌≤◌, Bool, true, false, ◌&&◌, ◌||◌, List, [], ◌∷◌, ◌++◌, length, Option, Some, None, is_some, nat_lt, ◌==◌, if◌then◌else◌, bytes_eq, codes}
 use Rattle.std.specs.List.{AllByRecursion}
 use Rattle.spelling.specs.Parts.{lines_of, is_printable}
-use Rattle.spelling.specs.Words.{words_of, begins_with, natural_in}
+use Rattle.spelling.specs.Words.{words_of, natural_in}
 use Rattle.spelling.specs.Fields.{AreIn}
 use Rattle.spelling.specs.Items.{AreComments}
 use Rattle.spelling.specs.FirstFaults.{IsFirst, IsFirstFault}
@@ -13,8 +13,8 @@ use Rattle.script.specs.declared.fault.Reason.TheVariants as reason
 use Rattle.script.specs.declared.fault.ScriptFault.{ScriptFault}
 use Rattle.script.specs.declared.fault.ScriptRefused.{ScriptRefused}
 use Rattle.script.specs.declared.fault.ScriptRefused.TheVariants as read_error
-use Rattle.script.specs.Later.{is_one_of, begins_with_one_of, later_words, later_in_block, is_later_class, is_later_call}
-use Rattle.script.specs.Scripts.{Item, Before, class_fields, class_text, after_items, AreItemsOf}
+use Rattle.script.specs.Later.{is_one_of, begins_with_one_of, asset_words, later_words, later_in_block, is_later_class, is_later_call}
+use Rattle.script.specs.Scripts.{Item, Before, IsEarly, class_fields, class_text, after_items, AreItemsOf}
 
 -- ---- where a line stands
 
@@ -34,13 +34,12 @@ pub record AreOpen (lines : List (List ℕ)) : Type 0 where
   pub front : List (List ℕ)
   pub before : Before
   pub whole : AreWhole front before
-  pub header : before.header ≡ 4
-  pub early : before.calls ≡ 0
+  pub early : IsEarly before
   pub back : ℕ
-  pub counted : AreIn class_fields (before.classes, (back, tt))
+  pub counted : AreIn class_fields (length before.said.assets.classes, (back, tt))
   pub body : List (List ℕ)
   pub comments : AreComments body
-  pub spelled : lines ≡ front ++ class_text before.classes back ∷ body
+  pub spelled : lines ≡ front ++ class_text (length before.said.assets.classes) back ∷ body
 
 abbrev pub StandsAt : List (List ℕ) → Place → Type 0
 StandsAt lines (Between b) = AreWhole lines b
@@ -72,16 +71,17 @@ is_later InClass line = begins_with_one_of later_in_block (words_of line)
 abbrev pub IsCallLine : List ℕ → Type 0
 IsCallLine text = (line : Line) × LineFits line × (text ≡ text_of_line line)
 
--- the first word is `class`
-abbrev pub opens_class : List ℕ → Bool
-opens_class line = begins_with (codes "class") (words_of line)
+-- the first word is one of them
+abbrev pub opens_asset : List ℕ → Bool
+opens_asset line = begins_with_one_of asset_words (words_of line)
 
 -- The reason may be held against a line that makes no longer front. So the line is known not to be
 -- the one that belongs at its place.
 abbrev pub HoldsBetween : Before → List ℕ → Reason → Type 0
 HoldsBetween b line reason.Header = b.header < 4
-HoldsBetween b line reason.Late = (b.header ≡ 4) × (opens_class line ≡ true) × (0 < b.calls)
-HoldsBetween b line reason.Asset = (b.header ≡ 4) × (opens_class line ≡ true)
+HoldsBetween b line reason.Late =
+    (b.header ≡ 4) × (opens_asset line ≡ true) × (0 < length b.said.lines)
+HoldsBetween b line reason.Asset = (b.header ≡ 4) × (opens_asset line ≡ true)
 HoldsBetween b line reason.Call = (b.header ≡ 4) × (IsCallLine line → ⊥)
 HoldsBetween b line reason.Many = (b.header ≡ 4) × IsCallLine line
 HoldsBetween b line _ = ⊥

@@ -1,5 +1,7 @@
 -- What a script's lines say, read from left to right.
-use Rattle.std.specs.Prelude.{ℕ, List, Option, codes}
+use Rattle.std.specs.Prelude.{ℕ, ◌&&◌, List, [], ◌∷◌, length, Option, Some, None, nat_le, if◌then◌else◌, codes}
+use Rattle.spelling.specs.Parts.{is_printable}
+use Rattle.spelling.specs.Words.{◌>>=◌, natural_at, text_of_words}
 use Rattle.spelling.specs.Fields.{Values, values_of, line_values}
 use Rattle.script.specs.Scripts.{screen_fields, desktop_fields, class_fields}
 
@@ -14,3 +16,18 @@ desktop_in words = line_values (codes "desktop") desktop_fields words
 -- the number and the colour in the words after `class`
 unfoldable pub class_in : List (List ℕ) → Option (Values class_fields)
 class_in words = values_of class_fields words
+
+-- the text that begins with a space, at most 64 bytes after it
+abbrev pub text_in : List (List ℕ) → Option (List ℕ)
+text_in [] = None
+text_in (word ∷ words) =
+    if nat_le (length (text_of_words (word ∷ words))) 64
+    && is_printable (text_of_words (word ∷ words))
+    then Some (text_of_words (word ∷ words)) else None
+
+-- the number and the text in the words after `string`
+unfoldable pub string_in : List (List ℕ) → Option (ℕ × List ℕ)
+string_in words = do
+  number ← natural_at 0 255 words
+  text ← text_in number.1
+  Some (number.0, text)

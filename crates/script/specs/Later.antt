@@ -1,4 +1,4 @@
--- Forms of lines that aren't built yet, by the words that decide.
+-- The words that decide what form a line is of, and which forms aren't built yet.
 use Rattle.std.specs.Prelude.{ℕ, Bool, false, List, [], ◌∷◌, ◌++◌, bytes_eq, codes}
 use Rattle.std.specs.List.{list_any}
 use Rattle.spelling.specs.Words.{words_of, begins_with}
@@ -12,9 +12,13 @@ abbrev pub begins_with_one_of : List ℕ → List (List ℕ) → Bool
 begins_with_one_of names [] = false
 begins_with_one_of names (word ∷ words) = is_one_of names word
 
+-- first words of assets' lines
+unfoldable pub asset_words : List ℕ
+asset_words = codes "string class"
+
 -- first words outside blocks
 unfoldable pub later_words : List ℕ
-later_words = codes "font bitmap string display viewer done"
+later_words = codes "font bitmap display viewer done"
 
 -- first words of a class's lines
 unfoldable pub later_in_block : List ℕ

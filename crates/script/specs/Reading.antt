@@ -1,9 +1,9 @@
 -- Reading a file line by line: what its items say, or its first fault.
-use Rattle.std.specs.Prelude.{◌≡◌, ℕ, ◌&&◌, ◌||◌, List, [], ◌∷◌, ◌++◌, length, Option, Some, None, is_some, Result, Ok, Err, nat_lt, nat_le, ◌==◌, if◌then◌else◌, bytes_eq, codes}
+use Rattle.std.specs.Prelude.{◌≡◌, ℕ, ◌&&◌, ◌||◌, List, [], ◌∷◌, length, Option, Some, None, is_some, Result, Ok, Err, nat_lt, nat_le, ◌==◌, if◌then◌else◌, bytes_eq, codes}
 use Rattle.calls.specs.declared.line.Line.{Line}
 use Rattle.calls.specs.Words.{line_of}
 use Rattle.spelling.specs.Parts.{lines_of, is_printable}
-use Rattle.spelling.specs.Words.{words_of, after_word, natural_in}
+use Rattle.spelling.specs.Words.{words_of, natural_in}
 use Rattle.spelling.specs.Fields.{Values}
 use Rattle.spelling.specs.Items.{is_comment}
 use Rattle.spelling.specs.LineReading.{read_from}
@@ -16,9 +16,9 @@ use Rattle.script.specs.declared.fault.LineError.{LineError}
 use Rattle.script.specs.declared.fault.LineError.TheVariants as line_error
 use Rattle.script.specs.declared.fault.ScriptRefused.{ScriptRefused}
 use Rattle.script.specs.declared.fault.ScriptRefused.TheVariants as read_error
-use Rattle.script.specs.Fields.{screen_in, desktop_in, class_in}
-use Rattle.script.specs.Later.{is_one_of, begins_with_one_of, later_words, later_in_block, is_later_class, is_later_call}
-use Rattle.script.specs.Scripts.{Before, Listing, Script, class_fields, script_for}
+use Rattle.script.specs.Fields.{screen_in, desktop_in, class_in, string_in}
+use Rattle.script.specs.Later.{is_one_of, begins_with_one_of, asset_words, later_words, later_in_block, is_later_class, is_later_call}
+use Rattle.script.specs.Scripts.{Before, Listing, Script, class_fields, empty_listing, plain_class, with_class, with_string, with_line, with_desktop, script_for}
 use Rattle.script.specs.Faults.{Place, Between, InClass, why_cut}
 
 -- ---- reasons against a line
@@ -32,10 +32,9 @@ header_reason line =
 abbrev pub block_reason : List (List ℕ) → Reason
 block_reason words = if begins_with_one_of later_in_block words then Later else Block
 
--- against a line that opens no class and is no call
-abbrev pub call_reason : List (List ℕ) → Reason
-call_reason [] = Call
-call_reason (first ∷ words) =
+-- against a line with this first word that is no asset's and no call
+abbrev pub call_reason : List ℕ → List (List ℕ) → Reason
+call_reason first words =
     if is_one_of later_words first
     || (is_some (natural_in 1 16 first) && is_later_call words) then Later else Call
 
@@ -44,14 +43,14 @@ call_reason (first ∷ words) =
 -- what the lines so far say, and which line comes next
 pub record Draft : Type 0 where
   pub stage : Stage
-  pub width : ℕ
-  pub height : ℕ
-  pub classes : List ℕ
-  pub lines : List Line
+  pub said : Listing
 
 -- before the first line
 abbrev pub empty_draft : Draft
-empty_draft = record { stage = stage.Title; width = 0; height = 0; classes = []; lines = [] }
+empty_draft = record { stage = stage.Title; said = empty_listing }
+
+abbrev pub staged : Stage → Listing → Draft
+staged s said = record { stage = s; said = said }
 
 -- the draft after what a line spells, or the reason against it
 abbrev pub after_value : {A : Type 0} → Option A → Reason → (A → Draft) → Result Draft Reason
@@ -68,7 +67,7 @@ after_title d line =
 unfoldable pub after_screen : Draft → List ℕ → Result Draft Reason
 after_screen d line =
     after_value (screen_in (words_of line)) (header_reason line)
-    (λ sides. record d { stage = stage.Buffers; width = sides.0; height = sides.1.0 })
+    (λ sides. staged stage.Buffers (record d.said { width = sides.0; height = sides.1.0 }))
 
 -- after `buffers 1`
 unfoldable pub after_buffers : Draft → List ℕ → Result Draft Reason
@@ -80,7 +79,7 @@ after_buffers d line =
 unfoldable pub after_desktop : Draft → List ℕ → Result Draft Reason
 after_desktop d line =
     after_value (desktop_in (words_of line)) (header_reason line)
-    (λ colour. record d { stage = stage.Body; classes = d.classes ++ colour.0 ∷ [] })
+    (λ colour. staged stage.Body (with_desktop d.said colour.0))
 
 -- after the end of a class's block
 unfoldable pub after_block : Draft → List ℕ → Result Draft Reason
@@ -88,32 +87,50 @@ after_block d line =
     if bytes_eq line (codes "end") then Ok (record d { stage = stage.Body })
     else Err (block_reason (words_of line))
 
+-- the draft with a class that was opened
+abbrev pub opened : Draft → ℕ → Draft
+opened d back = staged stage.Block (with_class d.said (plain_class back))
+
 -- after the line that opens the class of this number and colour
-abbrev pub after_opening : Draft → Option (Values class_fields) → Result Draft Reason
-after_opening d None = Err Asset
-after_opening d (Some class) =
-    if class.0 == length d.classes
-    then Ok (record d { stage = stage.Block; classes = d.classes ++ class.1.0 ∷ [] }) else Err Asset
+abbrev pub after_class : Draft → Option (Values class_fields) → Result Draft Reason
+after_class d None = Err Asset
+after_class d (Some class) =
+    if class.0 == length d.said.assets.classes then Ok (opened d class.1.0) else Err Asset
 
--- after a line by its words after `class`
-unfoldable pub after_class : Draft → List (List ℕ) → Result Draft Reason
-after_class d words =
-    if is_later_class words then Err Later
-    else (if length d.lines == 0 then after_opening d (class_in words) else Err Late)
+-- after the string of this number and text
+abbrev pub after_string : Draft → Option (ℕ × List ℕ) → Result Draft Reason
+after_string d None = Err Asset
+after_string d (Some string) =
+    if string.0 == length d.said.assets.strings
+    then Ok (record d { said = with_string d.said string.1 }) else Err Asset
 
--- after a line that is no call, by its words after `class` where it opens one
-abbrev pub after_other : Draft → List ℕ → Option (List (List ℕ)) → Result Draft Reason
-after_other d line None = Err (call_reason (words_of line))
-after_other d line (Some words) = after_class d words
+-- after an asset's line that stands before the call lines
+abbrev pub after_early : Draft → List ℕ → List (List ℕ) → Result Draft Reason
+after_early d first words =
+    if bytes_eq first (codes "class") then after_class d (class_in words)
+    else after_string d (string_in words)
+
+-- after an asset's line, by its first word and the words after it
+unfoldable pub after_asset : Draft → List ℕ → List (List ℕ) → Result Draft Reason
+after_asset d first words =
+    if bytes_eq first (codes "class") && is_later_class words then Err Later
+    else (if length d.said.lines == 0 then after_early d first words else Err Late)
+
+-- after a line that is no call, by its words
+abbrev pub after_other : Draft → List (List ℕ) → Result Draft Reason
+after_other d [] = Err Call
+after_other d (first ∷ words) =
+    if is_one_of asset_words first then after_asset d first words
+    else Err (call_reason first words)
 
 -- after a line by the call line that it spells
 abbrev pub after_call : Draft → List ℕ → Option Line → Result Draft Reason
-after_call d line None = after_other d line (after_word (codes "class") (words_of line))
+after_call d line None = after_other d (words_of line)
 after_call d line (Some call) =
-    if nat_lt (length d.lines) 400000 then Ok (record d { lines = d.lines ++ call ∷ [] })
+    if nat_lt (length d.said.lines) 400000 then Ok (record d { said = with_line d.said call })
     else Err Many
 
--- after a call line or a class's first line
+-- after a call line or an asset's first line
 unfoldable pub after_body : Draft → List ℕ → Result Draft Reason
 after_body d line = after_call d line (line_of (words_of line))
 
@@ -134,14 +151,9 @@ after_line d line =
 
 -- ---- files
 
--- what the lines of a draft say
-abbrev pub listing_from : Draft → Listing
-listing_from d = record { width = d.width; height = d.height; classes = d.classes; lines = d.lines }
-
 -- what stands before the next item, where there were so many lines of the header
 abbrev pub before_at : ℕ → Draft → Before
-before_at header d =
-    record { header = header; classes = length d.classes; calls = length d.lines }
+before_at header d = record { header = header; said = d.said }
 
 -- where the next line stands
 abbrev pub place_at : Stage → Draft → Place
@@ -172,10 +184,13 @@ abbrev pub draft_of : DraftOfProgram → Draft
 draft_of d =
     record {
       stage = d.stage;
-      width = d.width;
-      height = d.height;
-      classes = d.classes.items;
-      lines = d.lines.items;
+      said = record {
+        width = d.width;
+        height = d.height;
+        desktop = d.desktop;
+        assets = d.assets;
+        lines = d.lines.items;
+      };
     }
 
 -- what taking a line returned, and left
@@ -186,7 +201,7 @@ Takes (Err (line_error.Wrong reason)) new read = read ≡ Err reason
 
 -- what was read is the script of the draft
 abbrev pub Reads : Script → Result Draft (ℕ × Reason) → Type 0
-Reads s read = (d : Draft) × (read ≡ Ok d) × (s ≡ script_for (listing_from d))
+Reads s read = (d : Draft) × (read ≡ Ok d) × (s ≡ script_for d.said)
 
 -- A fault is what the file says; without memory nothing is said.
 abbrev pub Says : Result Draft (ℕ × Reason) → ScriptRefused → Type 0

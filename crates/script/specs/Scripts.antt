@@ -1,13 +1,15 @@
 -- What a script says, and which files are scripts.
-use Rattle.std.specs.Prelude.{◌≡◌, ℕ, ◌+◌, ◌≤◌, true, List, [], ◌∷◌, ◌++◌, length, map, Some, slice_index, codes}
+use Rattle.std.specs.Prelude.{◌≡◌, ℕ, ◌+◌, ◌≤◌, true, List, [], ◌∷◌, ◌++◌, length, Some, codes, decimal}
 use Rattle.std.specs.List.{AllByRecursion}
 use Rattle.paint_ops.specs.Kinds.{Class, Assets}
 use Rattle.paint_ops.specs.Soundness.{IsSound}
+use Rattle.paint_ops.specs.Texts.{IsText}
 use Rattle.calls.specs.declared.config.Config.{Config}
 use Rattle.calls.specs.declared.line.Line.{Line}
 use Rattle.calls.specs.Lines.{FitsItsTask}
 use Rattle.calls.specs.Words.{text_of_line, LineFits}
 use Rattle.spelling.specs.Parts.{lines_of, is_printable}
+use Rattle.spelling.specs.Words.{text_of_words}
 use Rattle.spelling.specs.Fields.{Field, Natural, Colour, AreIn, text_with}
 use Rattle.spelling.specs.Items.{AreComments, AreItems, all_after}
 
@@ -27,56 +29,116 @@ class_fields = Natural 1 63 ∷ Colour ∷ []
 abbrev pub class_text : ℕ → ℕ → List ℕ
 class_text number back = text_with (codes "class") class_fields (number, (back, tt))
 
+-- the line of the string of this number, whose text may have spaces
+abbrev pub string_text : ℕ → List ℕ → List ℕ
+string_text number text = text_of_words (codes "string" ∷ decimal number ∷ text ∷ [])
+
+-- ---- what items say
+
+-- the screen's sides, the desktop's colour, what windows paint with, and the call lines
+pub record Listing : Type 0 where
+  pub width : ℕ
+  pub height : ℕ
+  pub desktop : ℕ
+  pub assets : Assets
+  pub lines : List Line
+
+abbrev pub no_assets : Assets
+no_assets = record { classes = []; fonts = []; bitmaps = []; strings = [] }
+
+abbrev pub empty_listing : Listing
+empty_listing =
+    record { width = 0; height = 0; desktop = 0; assets = no_assets; lines = [] }
+
+-- the class that has a back colour alone
+abbrev pub plain_class : ℕ → Class
+plain_class colour = record { back = Some colour; ops = []; reactions = [] }
+
+-- with a class more
+abbrev pub with_class : Listing → Class → Listing
+with_class l class =
+    record l { assets = record l.assets { classes = l.assets.classes ++ class ∷ [] } }
+
+-- with a string more
+abbrev pub with_string : Listing → List ℕ → Listing
+with_string l text =
+    record l { assets = record l.assets { strings = l.assets.strings ++ text ∷ [] } }
+
+-- with a call line more
+abbrev pub with_line : Listing → Line → Listing
+with_line l line = record l { lines = l.lines ++ line ∷ [] }
+
 -- ---- items
 
--- the header's four lines, and what follows them: classes by their back colours, and call lines
+-- the header's four lines, and what follows them: strings, classes by their back colours, and call
+-- lines
 pub data Item : Type 0 where
   Title : Item
   Screen : ℕ → ℕ → Item
   Buffers : Item
   Desktop : ℕ → Item
+  StringOf : List ℕ → Item
   ClassOf : ℕ → Item
   CallOf : Line → Item
 
--- what stands before an item: how many lines of the header, classes with the desktop's, and call
--- lines
+-- what stands before an item: how many lines of the header, and what the items say
 pub record Before : Type 0 where
   pub header : ℕ
-  pub classes : ℕ
-  pub calls : ℕ
+  pub said : Listing
 
 abbrev pub nothing : Before
-nothing = record { header = 0; classes = 0; calls = 0 }
+nothing = record { header = 0; said = empty_listing }
+
+-- the desktop's class is the first one
+abbrev pub with_desktop : Listing → ℕ → Listing
+with_desktop l colour = with_class (record l { desktop = colour }) (plain_class colour)
 
 abbrev pub after : Before → Item → Before
 after b Title = record b { header = 1 }
-after b (Screen w h) = record b { header = 2 }
+after b (Screen w h) =
+    record { header = 2; said = record b.said { width = w; height = h } }
 after b Buffers = record b { header = 3 }
-after b (Desktop colour) = record b { header = 4; classes = b.classes + 1 }
-after b (ClassOf back) = record b { classes = b.classes + 1 }
-after b (CallOf line) = record b { calls = b.calls + 1 }
+after b (Desktop colour) = record { header = 4; said = with_desktop b.said colour }
+after b (StringOf text) = record b { said = with_string b.said text }
+after b (ClassOf back) = record b { said = with_class b.said (plain_class back) }
+after b (CallOf line) = record b { said = with_line b.said line }
 
 -- what stands after items
 abbrev pub after_items : List Item → Before
 after_items items = all_after after nothing items
 
+-- what items say
+abbrev pub listing_of : List Item → Listing
+listing_of items = (after_items items).said
+
+-- fonts, strings and classes stand after the header and before the call lines
+pub record IsEarly (b : Before) : Type 0 where
+  pub header : b.header ≡ 4
+  pub none : length b.said.lines ≡ 0
+
 -- one line of the header, at its place
 abbrev pub IsHeader : Before → ℕ → List (List ℕ) → List ℕ → Type 0
 IsHeader b place block line = (b.header ≡ place) × (block ≡ line ∷ [])
 
--- a class's lines, with comments between them: after the header and before the call lines
+-- a string's line
+pub record IsStringBlock (b : Before) (text : List ℕ) (block : List (List ℕ)) : Type 0 where
+  pub early : IsEarly b
+  pub counted : length b.said.assets.strings ≤ 255
+  pub is : IsText text
+  pub spelled : block ≡ string_text (length b.said.assets.strings) text ∷ []
+
+-- a class's lines, with comments between them
 pub record IsClassBlock (b : Before) (back : ℕ) (block : List (List ℕ)) : Type 0 where
-  pub header : b.header ≡ 4
-  pub early : b.calls ≡ 0
-  pub counted : AreIn class_fields (b.classes, (back, tt))
+  pub early : IsEarly b
+  pub counted : AreIn class_fields (length b.said.assets.classes, (back, tt))
   pub body : List (List ℕ)
   pub comments : AreComments body
-  pub spelled : block ≡ class_text b.classes back ∷ body ++ codes "end" ∷ []
+  pub spelled : block ≡ class_text (length b.said.assets.classes) back ∷ body ++ codes "end" ∷ []
 
 -- a call line: after the header, and one of at most 400,000
 pub record IsCallBlock (b : Before) (line : Line) (block : List (List ℕ)) : Type 0 where
   pub header : b.header ≡ 4
-  pub few : b.calls + 1 ≤ 400000
+  pub few : length b.said.lines + 1 ≤ 400000
   pub fits : LineFits line
   pub spelled : block ≡ text_of_line line ∷ []
 
@@ -90,35 +152,13 @@ Spells b Buffers block = IsHeader b 2 block (codes "buffers 1")
 Spells b (Desktop colour) block =
     IsHeader b 3 block (text_with (codes "desktop") desktop_fields (colour, tt))
     × AreIn desktop_fields (colour, tt)
+Spells b (StringOf text) block = IsStringBlock b text block
 Spells b (ClassOf back) block = IsClassBlock b back block
 Spells b (CallOf line) block = IsCallBlock b line block
 
 -- the lines are these items, with comments between them
 abbrev pub AreItemsOf : List Item → List (List ℕ) → Type 0
 AreItemsOf items lines = AreItems Spells after nothing items lines
-
--- ---- what items say
-
--- the screen's sides, the classes' back colours from the desktop's on, and the call lines
-pub record Listing : Type 0 where
-  pub width : ℕ
-  pub height : ℕ
-  pub classes : List ℕ
-  pub lines : List Line
-
-abbrev pub empty_listing : Listing
-empty_listing = record { width = 0; height = 0; classes = []; lines = [] }
-
-abbrev pub listing_with : Listing → Item → Listing
-listing_with l Title = l
-listing_with l (Screen w h) = record l { width = w; height = h }
-listing_with l Buffers = l
-listing_with l (Desktop colour) = record l { classes = l.classes ++ colour ∷ [] }
-listing_with l (ClassOf back) = record l { classes = l.classes ++ back ∷ [] }
-listing_with l (CallOf line) = record l { lines = l.lines ++ line ∷ [] }
-
-abbrev pub listing_of : List Item → Listing
-listing_of items = all_after listing_with empty_listing items
 
 -- ---- scripts
 
@@ -128,15 +168,6 @@ pub record Script : Type 0 where
   pub assets : Assets
   pub lines : List Line
 
--- the class that has a back colour alone
-abbrev pub plain_class : ℕ → Class
-plain_class colour = record { back = Some colour; ops = []; reactions = [] }
-
--- what windows of such classes paint with
-abbrev pub plain_assets : List ℕ → Assets
-plain_assets colours =
-    record { classes = map plain_class colours; fonts = []; bitmaps = []; strings = [] }
-
 -- the script of what items say: one buffer, and room for as many calls as there are call lines
 abbrev pub script_for : Listing → Script
 script_for l = record {
@@ -144,10 +175,10 @@ script_for l = record {
     w = l.width;
     h = l.height;
     buffers = 1;
-    desktop = slice_index l.classes 0;
+    desktop = l.desktop;
     calls = length l.lines;
   };
-  assets = plain_assets l.classes;
+  assets = l.assets;
   lines = l.lines;
 }
 

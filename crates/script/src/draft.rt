@@ -3,19 +3,22 @@
 ghost use Rattle.std.specs.Prelude.{◌≡◌, ◌≤◌, length, IfOk};
 ghost use Rattle.script.specs.declared.draft.Stage.TheVariants as stage;
 ghost use Rattle.spelling.specs.Words.{left};
-ghost use Rattle.script.specs.Reading.{draft_of, empty_draft, listing_from, Takes};
+ghost use Rattle.script.specs.Reading.{draft_of, empty_draft, Takes};
 ghost use Rattle.script.specs.Reading.{after_title, after_screen, after_buffers, after_desktop};
-ghost use Rattle.script.specs.Reading.{after_block, after_class, after_body, after_words};
-ghost use Rattle.script.specs.Scripts.{script_for};
+ghost use Rattle.script.specs.Reading.{after_block, after_class, after_string, after_early};
+ghost use Rattle.script.specs.Reading.{after_asset, after_other, after_body, after_words};
+ghost use Rattle.script.specs.Fields.{class_in, string_in};
+ghost use Rattle.script.specs.Scripts.{plain_class, script_for};
+ghost use Rattle.spelling.specs.Words.{words_of};
 
 use crate::fault::{LineError, Reason};
-use crate::fields::{class_in, desktop_in, line_in, screen_in};
-use crate::plain::plain_assets;
-use crate::reasons::{block_reason, call_reason, header_reason, is_later_class};
+use crate::fields::{class_in, desktop_in, line_in, screen_in, string_in};
+use crate::reasons::{block_reason, call_reason, header_reason, is_asset_word, is_later_class};
 use crate::script::Script;
 use calls::{Config, Line};
 use gfx_base::Colour;
-use spelling::after_word;
+use paint_ops::{Assets, Class};
+use spelling::word_at;
 use std::alloc::{AllocError, Global};
 
 /// How many classes a script may have, with the desktop's.
@@ -31,7 +34,7 @@ pub enum Stage {
     Screen,
     Buffers,
     Desktop,
-    /// A class or a call.
+    /// A string, a class or a call.
     Body,
     /// The end of a class's block.
     Block,
@@ -40,11 +43,24 @@ pub enum Stage {
 /// What the lines so far say.
 #[derive(Drop)]
 pub struct Draft {
+    alloc: Global,
     pub stage: Stage,
-    pub width: u16,
-    pub height: u16,
-    pub classes: Vec<Colour>,
-    pub lines: Vec<Line>,
+    width: u16,
+    height: u16,
+    desktop: Colour,
+    assets: Assets,
+    lines: Vec<Line>,
+}
+
+/// The class that has a back colour alone.
+fn plain_class(alloc: Global, back: Colour) -> Class
+    ensures { result ≡ plain_class back }
+{
+    Class {
+        back: Some(back),
+        ops: Vec::new(alloc),
+        reactions: Vec::new(alloc),
+    }
 }
 
 #[tactic(auto, unfolding(crate::specs::Reading::after_title))]
@@ -89,7 +105,8 @@ fn take_desktop(draft: &mut Draft, line: &[u8]) -> Result<(), LineError>
     let Some(colour) = desktop_in(line) else {
         return Err(LineError::Wrong(header_reason(line)));
     };
-    draft.classes.push(colour)?;
+    draft.desktop = colour;
+    draft.assets.classes.push(plain_class(draft.alloc, colour))?;
     draft.stage = Stage::Body;
     Ok(())
 }
@@ -106,25 +123,75 @@ fn take_block(draft: &mut Draft, line: &[u8]) -> Result<(), LineError>
 }
 
 /// Takes a line that opens a class, by its words after `class`.
-#[tactic(auto, unfolding(crate::specs::Reading::after_class))]
 fn take_class(draft: &mut Draft, rest: Option<&[u8]>) -> Result<(), LineError>
-    ensures { Takes result draft.new (after_class (draft_of draft.old) (left rest.entry)) }
+    ensures { Takes result draft.new
+        (after_class (draft_of draft.old) (class_in (left rest.entry))) }
 {
-    if is_later_class(rest) {
+    let Some((number, colour)) = class_in(rest) else {
+        return Err(LineError::Wrong(Reason::Asset));
+    };
+    if usize::from(number) != draft.assets.classes.len() {
+        return Err(LineError::Wrong(Reason::Asset));
+    }
+    draft.assets.classes.push(plain_class(draft.alloc, colour))?;
+    draft.stage = Stage::Block;
+    Ok(())
+}
+
+/// Takes a string's line, by its words after `string`.
+fn take_string(draft: &mut Draft, rest: Option<&[u8]>) -> Result<(), LineError>
+    ensures { Takes result draft.new
+        (after_string (draft_of draft.old) (string_in (left rest.entry))) }
+{
+    let Some((number, text)) = string_in(rest) else {
+        return Err(LineError::Wrong(Reason::Asset));
+    };
+    if usize::from(number) != draft.assets.strings.len() {
+        return Err(LineError::Wrong(Reason::Asset));
+    }
+    draft.assets.strings.push(text)?;
+    Ok(())
+}
+
+/// Takes an asset's line that stands before the call lines.
+fn take_early(draft: &mut Draft, first: &[u8], rest: Option<&[u8]>) -> Result<(), LineError>
+    ensures { Takes result draft.new
+        (after_early (draft_of draft.old) first.now (left rest.entry)) }
+{
+    if first == b"class".as_slice() {
+        take_class(draft, rest)
+    } else {
+        take_string(draft, rest)
+    }
+}
+
+/// Takes an asset's line, by its first word and the words after it.
+#[tactic(auto, unfolding(crate::specs::Reading::after_asset))]
+fn take_asset(draft: &mut Draft, first: &[u8], rest: Option<&[u8]>) -> Result<(), LineError>
+    ensures { Takes result draft.new
+        (after_asset (draft_of draft.old) first.now (left rest.entry)) }
+{
+    if first == b"class".as_slice() && is_later_class(rest) {
         return Err(LineError::Wrong(Reason::Later));
     }
     if !draft.lines.is_empty() {
         return Err(LineError::Wrong(Reason::Late));
     }
-    let Some((number, colour)) = class_in(rest) else {
-        return Err(LineError::Wrong(Reason::Asset));
+    take_early(draft, first, rest)
+}
+
+/// Takes a line that is no call line.
+fn take_other(draft: &mut Draft, text: &[u8]) -> Result<(), LineError>
+    ensures { Takes result draft.new (after_other (draft_of draft.old) (words_of text.now)) }
+{
+    let Some((first, rest)) = word_at(Some(text)) else {
+        return Err(LineError::Wrong(Reason::Call));
     };
-    if usize::from(number) != draft.classes.len() {
-        return Err(LineError::Wrong(Reason::Asset));
+    if is_asset_word(first) {
+        take_asset(draft, first, rest)
+    } else {
+        Err(LineError::Wrong(call_reason(first, rest)))
     }
-    draft.classes.push(colour)?;
-    draft.stage = Stage::Block;
-    Ok(())
 }
 
 /// Takes a line after the header. Most are call lines, so those come first.
@@ -133,10 +200,7 @@ fn take_body(draft: &mut Draft, text: &[u8]) -> Result<(), LineError>
     ensures { Takes result draft.new (after_body (draft_of draft.old) text.now) }
 {
     let Some(line) = line_in(text) else {
-        return match after_word(b"class", Some(text)) {
-            Some(rest) => take_class(draft, rest),
-            None => Err(LineError::Wrong(call_reason(text))),
-        };
+        return take_other(draft, text);
     };
     if draft.lines.len() >= MOST_LINES {
         return Err(LineError::Wrong(Reason::Many));
@@ -149,11 +213,19 @@ impl Draft {
     pub fn new(alloc: Global) -> Result<Draft, AllocError>
         ensures { IfOk result (λ draft. draft_of draft ≡ empty_draft) }
     {
+        let assets = Assets {
+            classes: Vec::with_capacity(alloc, MOST_CLASSES)?,
+            fonts: Vec::new(alloc),
+            bitmaps: Vec::new(alloc),
+            strings: Vec::new(alloc),
+        };
         Ok(Draft {
+            alloc,
             stage: Stage::Title,
             width: 0,
             height: 0,
-            classes: Vec::with_capacity(alloc, MOST_CLASSES)?,
+            desktop: Colour::default(),
+            assets,
             lines: Vec::new(alloc),
         })
     }
@@ -173,21 +245,20 @@ impl Draft {
     }
 
     /// The script, where all lines were read.
-    pub fn into_script(self, alloc: Global) -> Result<Script, AllocError>
-        requires desktop { 1 ≤ length self.classes.items }
-        requires few { length self.lines.items ≤ 400000 }
-        ensures { IfOk result (λ s. s ≡ script_for (listing_from (draft_of self))) }
+    pub fn into_script(self) -> Script
+        requires { length (draft_of self).said.lines ≤ 400000 }
+        ensures { result ≡ script_for (draft_of self).said }
     {
-        Ok(Script {
+        Script {
             config: Config {
                 w: self.width,
                 h: self.height,
                 buffers: 1,
-                desktop: self.classes[0],
+                desktop: self.desktop,
                 calls: self.lines.len() as u32,
             },
-            assets: plain_assets(alloc, &self.classes)?,
+            assets: self.assets,
             lines: self.lines,
-        })
+        }
     }
 }

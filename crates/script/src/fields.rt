@@ -1,14 +1,15 @@
-//! What the lines of a script say: the screen's sides, colours, classes and calls.
+//! What the lines of a script say: the screen's sides, colours, classes, strings and calls.
 
 ghost use Rattle.std.specs.Prelude.{◌≡◌};
 ghost use Rattle.spelling.specs.Words.{Gives, left, words_of};
 ghost use Rattle.spelling.specs.Fields.{Reads};
 ghost use Rattle.calls.specs.Words.{call_with, call_at, line_of};
-ghost use Rattle.script.specs.Fields.{screen_in, desktop_in, class_in};
+ghost use Rattle.script.specs.Fields.{screen_in, desktop_in, class_in, text_in, string_in};
 
 use calls::{Act, Call, Line, Word};
 use gfx_base::Colour;
-use spelling::{Args, after_word};
+use paint_ops::Text;
+use spelling::{Args, after_word, natural_at};
 
 /// The sides that `screen W H` says.
 #[tactic(auto, unfolding(crate::specs::Fields::screen_in, spelling::specs::Fields::line_values))]
@@ -52,6 +53,24 @@ pub fn class_in(rest: Option<&[u8]>) -> Option<(u16, Colour)>
     } else {
         None
     }
+}
+
+/// The text that follows a space, if there is one.
+fn text_in(rest: Option<&[u8]>) -> Option<Text>
+    ensures { Gives (λ text. text) result (text_in (left rest.entry)) }
+{
+    Text::new(rest?)
+}
+
+/// The number and the text that the words after `string` say. The text is all that follows the
+/// space after the number.
+#[tactic(auto, unfolding(crate::specs::Fields::string_in))]
+pub fn string_in(rest: Option<&[u8]>) -> Option<(u16, Text)>
+    ensures { Gives (λ string. (string.0, string.1)) result (string_in (left rest.entry)) }
+{
+    let (number, rest) = natural_at(0, 255, rest)?;
+    let text = text_in(rest)?;
+    Some((number, text))
 }
 
 /// The call that a word makes of the fields after it.

@@ -5,7 +5,6 @@ mod draft;
 mod fault;
 mod fields;
 pub mod laws;
-mod plain;
 mod reader;
 mod reasons;
 mod script;

@@ -62,7 +62,7 @@ fn read_lines(alloc: Global, text: &[u8]) -> Result<Script, ScriptRefused>
         rest = after;
     }
     match draft.stage {
-        Stage::Body => Ok(draft.into_script(alloc)?),
+        Stage::Body => Ok(draft.into_script()),
         _ => Err(fault(number + 1, Reason::End)),
     }
 }

@@ -1,20 +1,23 @@
-//! Reasons against lines, and the words of forms that this version doesn't build.
+//! Reasons against lines, and the words that decide on a line's form.
 
 ghost use Rattle.std.specs.Prelude.{◌≡◌};
 ghost use Rattle.spelling.specs.Words.{left, words_of};
-ghost use Rattle.script.specs.Later.{is_one_of, is_later_class, is_later_call};
+ghost use Rattle.script.specs.Later.{is_one_of, asset_words, is_later_class, is_later_call};
 ghost use Rattle.script.specs.Reading.{header_reason, block_reason, call_reason};
 
 use crate::fault::Reason;
 use spelling::{begins_with, natural_in, word_at};
 
-/// First words outside blocks.
-const LATER_WORDS: &[u8] = b"font bitmap string display viewer done";
+/// First words of assets' lines.
+const ASSET_WORDS: &[u8] = b"string class";
 
-/// First words of a class's lines.
+/// First words outside blocks, of forms that this version doesn't build.
+const LATER_WORDS: &[u8] = b"font bitmap display viewer done";
+
+/// First words of a class's lines, of such forms.
 const LATER_IN_BLOCK: &[u8] = b"fill frame hline vline line bitmap text number on";
 
-/// Second words, after a task.
+/// Second words, after a task, of such forms.
 const LATER_CALLS: &[u8] =
     b"set_trans set_memdev set_value send select colour bk_colour text_mode font save restore fill \
     frame line bitmap text dev_create dev_delete dev_select dev_copy begin end lock unlock";
@@ -25,6 +28,14 @@ fn is_one_of(names: &[u8], word: &[u8]) -> bool
     ensures { result ≡ is_one_of names.now word.now }
 {
     names.split(|b| *b == b' ').any(|name| name == word)
+}
+
+/// Whether the word is the first one of an asset's line.
+#[tactic(auto, unfolding(crate::specs::Later::asset_words))]
+pub fn is_asset_word(word: &[u8]) -> bool
+    ensures { result ≡ is_one_of asset_words word.now }
+{
+    is_one_of(ASSET_WORDS, word)
 }
 
 /// Whether the words after `class` are of a class without a back colour.
@@ -69,14 +80,11 @@ pub fn block_reason(line: &[u8]) -> Reason
     }
 }
 
-/// Why a line that opens no class is no call line.
+/// Why a line with this first word, which is no asset's, is no call line.
 #[tactic(auto, unfolding(crate::specs::Later::later_words))]
-pub fn call_reason(line: &[u8]) -> Reason
-    ensures { result ≡ call_reason (words_of line.now) }
+pub fn call_reason(first: &[u8], rest: Option<&[u8]>) -> Reason
+    ensures { result ≡ call_reason first.now (left rest.entry) }
 {
-    let Some((first, rest)) = word_at(Some(line)) else {
-        return Reason::Call;
-    };
     if is_one_of(LATER_WORDS, first)
         || (natural_in(1, 16, first).is_some() && is_later_call(rest))
     {

@@ -400,7 +400,8 @@ const CALL_FAULTS: [(u32, Reason, &str); 7] = [
     (
         5,
         Reason::Later,
-        "1 set_trans 2 1\n|16 set_value x\n|1 send\n|1 begin\n|1 lock\n|font 0 1\n|string\n|display tick\n|viewer 1 join\n|done\n",
+        "1 set_trans 2 1\n|16 set_value x\n|1 send\n|1 begin\n|1 lock\n|font 0 1\n\
+        |display tick\n|viewer 1 join\n|done\n",
     ),
     // Bytes that no line has.
     (5, Reason::Ascii, "1 hide 2\r\n|1 scan\r\n"),
@@ -417,6 +418,98 @@ fn the_first_fault_of_calls(rt: HostRuntime) {
             );
         }
     }
+}
+
+/// Strings' lines, each with its text: with spaces in it and around it, with none, of 64 bytes, and
+/// with words that begin lines.
+const STRINGS: [(&str, &str); 7] = [
+    ("string 0 Tank 1\n", "Tank 1"),
+    ("string 1 \n", ""),
+    ("# one space more\nstring 2  \n", " "),
+    ("string 3   a  b  \n", "  a  b  "),
+    ("\nstring 4 #\n", "#"),
+    (
+        "string 5 0123456789012345678901234567890123456789012345678901234567890123\n",
+        "0123456789012345678901234567890123456789012345678901234567890123",
+    ),
+    ("string 6 string 7 ~\n", "string 7 ~"),
+];
+
+/// Whether strings that stand before, between and after classes are read.
+fn are_strings_read(alloc: Global) -> Option<bool> {
+    let mut text = String::from_str(alloc, HEADER).ok()?;
+    for (line, _) in STRINGS {
+        text.push_str(line).ok()?;
+    }
+    text.push_str("class 1 000000\nend\nstring 7 end\n1 exec\n")
+        .ok()?;
+    let script = read(alloc, text.as_bytes()).ok()?;
+    let mut are_right = script.assets.strings.len() == 8;
+    for (string, (_, text)) in script.assets.strings.iter().zip(&STRINGS) {
+        are_right = are_right && string.bytes() == text.as_bytes();
+    }
+    Some(are_right && script.assets.classes.len() == 2 && script.lines.len() == 1)
+}
+
+#[test]
+fn strings_are_read_as_they_stand(rt: HostRuntime) {
+    assert_eq!(rt; are_strings_read(rt.alloc()), Some(true));
+}
+
+/// The line and the reason of the first fault, and the lines after the header, which `|` parts.
+const STRING_FAULTS: [(u32, Reason, &str); 4] = [
+    (
+        5,
+        Reason::Asset,
+        "string\n|string \n|string 0\n|string  0 a\n|string 00 a\n|string -0 a\n|string 1 a\n\
+        |string a 0\n|string +0 a\n|string 256 a\n|string 4294967296 a\n|string 0a b\n\
+        |string 0 01234567890123456789012345678901234567890123456789012345678901234\n",
+    ),
+    (
+        6,
+        Reason::Asset,
+        "string 0 a\nstring 0 a\n|string 0 a\nstring 2 b\n",
+    ),
+    (
+        6,
+        Reason::Late,
+        "1 exec\nstring 0 a\n|1 scan\nstring\n|1 exec\nstring 9 \n",
+    ),
+    (
+        5,
+        Reason::Call,
+        " string 0 a\n|strings 0 a\n|String 0 a\n|1 string 0 a\n",
+    ),
+];
+
+#[test]
+fn the_first_fault_of_strings(rt: HostRuntime) {
+    for (line, why, texts) in STRING_FAULTS {
+        for text in texts.split('|') {
+            assert!(rt;
+                is_fault_after(rt.alloc(), HEADER, text, line, why),
+                "{line}: {text}"
+            );
+        }
+    }
+}
+
+/// Whether 256 strings are read, and one more is a fault of its line.
+fn are_most_strings_read(alloc: Global) -> Option<bool> {
+    let mut text = String::from_str(alloc, HEADER).ok()?;
+    for number in 0..256 {
+        let line = format!(in alloc; "string {number} {number}\n").ok()?;
+        text.push_str(line.as_str()).ok()?;
+    }
+    let script = read(alloc, text.as_bytes()).ok()?;
+    let count = script.assets.strings.len();
+    text.push_str("string 256 a\n").ok()?;
+    Some(count == 256 && is_fault(alloc, text.as_bytes(), 261, Reason::Asset))
+}
+
+#[test]
+fn a_script_has_at_most_256_strings(rt: HostRuntime) {
+    assert_eq!(rt; are_most_strings_read(rt.alloc()), Some(true));
 }
 
 /// A text with 400,000 calls.

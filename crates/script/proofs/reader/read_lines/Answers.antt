@@ -3,10 +3,6 @@ use Rattle.script.specs.Reading.{draft_of}
 use Rattle.script.proofs.ReadingLaws.{whole_ready}
 use Rattle.script.proofs.reader.read_lines.Goals as goal
 
-pub into_script-requires-clause-desktop : goal.into_script-requires-clause-desktop
-into_script-requires-clause-desktop c =
-    (whole_ready c.args.text.now c.loop-rest.rest.now (c.loop-rest.number + 1) (draft_of c.loop-rest.draft) (search rules) c.in-Body.is c.loop-rest.invariant.read).0
-
-pub into_script-requires-clause-few : goal.into_script-requires-clause-few
-into_script-requires-clause-few c =
-    (whole_ready c.args.text.now c.loop-rest.rest.now (c.loop-rest.number + 1) (draft_of c.loop-rest.draft) (search rules) c.in-Body.is c.loop-rest.invariant.read).1
+pub into_script-requires : goal.into_script-requires
+into_script-requires c =
+    whole_ready c.args.text.now c.loop-rest.rest.now (c.loop-rest.number + 1) (draft_of c.loop-rest.draft) (search rules) c.in-Body.is c.loop-rest.invariant.read
