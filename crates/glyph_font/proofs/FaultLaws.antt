@@ -2,7 +2,7 @@
 use Rattle.std.proofs.Common.{◌≡◌, ℕ, ◌+◌, ◌≤◌, List, ◌∷◌, Option, Some, None, Result, Ok, Err, refl, sym, ap, subst, ◌∙◌, inl, inr}
 use Rattle.std.specs.Prelude.{◌⊎◌, MatchResult}
 use Rattle.spelling.specs.Parts.{lines_of}
-use Rattle.spelling.specs.LineReading.{on_line, IsReading}
+use Rattle.spelling.specs.LineReading.{run, on_line, IsReading}
 use Rattle.spelling.proofs.CallerLemmas as lines
 use Rattle.glyph_font.specs.declared.place.Place.{Place}
 use Rattle.glyph_font.specs.declared.place.Place.TheVariants.{Between, Within, After}
@@ -10,12 +10,12 @@ use Rattle.glyph_font.specs.declared.fault.FontWhy.{FontWhy}
 use Rattle.glyph_font.specs.declared.fault.FontFault.{FontFault}
 use Rattle.glyph_font.specs.declared.fault.FontRefused.{FontRefused}
 use Rattle.glyph_font.specs.declared.fault.FontRefused.TheVariants as refused
-use Rattle.glyph_font.specs.Fonts.{Glyph, Font, IsFont}
-use Rattle.glyph_font.specs.Texts.{font_lines, IsBody}
+use Rattle.glyph_font.specs.Fonts.{Font}
+use Rattle.glyph_font.specs.Texts.{IsBody}
 use Rattle.glyph_font.specs.Faults.{IsFront, IsFault, IsRefused, WhyAt, why_at, why_cut}
-use Rattle.glyph_font.specs.Reading.{Draft, start, after_line, or_why, line_step, from_line, read_of, Says, SaysFont}
-use Rattle.glyph_font.proofs.DraftLaws.{StandsAt}
-use Rattle.glyph_font.proofs.LinesReadLemmas.{run, height_after, read_stands, front_read_of, ReadsAll, all_read, front_reads}
+use Rattle.glyph_font.specs.Reading.{Draft, place_of, start, after_line, or_why, line_step, from_line, read_of, Says, SaysFont}
+use Rattle.glyph_font.proofs.BlockLaws.{whole_says, one_font_lines}
+use Rattle.glyph_font.proofs.LinesReadLemmas.{front_read_of, front_reads}
 
 -- ---- the step reads the fronts
 
@@ -23,10 +23,7 @@ refused_by : (place : Place) (o : Option Draft) (reason : FontWhy) → or_why pl
 refused_by place None reason is = cc
 refused_by place (Some d) reason is = absurd cc
 
-abbrev place_of : Draft → Place
-place_of d = d.place
-
-reading : (height : ℕ) → 1 ≤ height → height ≤ 32 → IsReading line_step (start height) place_of (IsFront height) WhyAt
+pub reading : (height : ℕ) → 1 ≤ height → height ≤ 32 → IsReading line_step (start height) place_of (IsFront height) WhyAt
 reading height some few = record {
   sound = λ xs d is. front_read_of height d xs some few is;
   complete = λ xs place front. let r = front_reads height xs place some front in (r.draft, r.read, r.place);
@@ -41,15 +38,10 @@ uncut Between is = absurd cc
 uncut Within is = absurd cc
 uncut After is = refl
 
-font_of : (height : ℕ) (body : List ℕ) (d : Draft) → 1 ≤ height → height ≤ 32 → run (start height) (lines_of body) ≡ Ok d → d.place ≡ After → IsBody height body d.font
+font_of : (height : ℕ) (body : List ℕ) (d : Draft) → 1 ≤ height → height ≤ 32 → run line_step (start height) (lines_of body) ≡ Ok d → d.place ≡ After → IsBody height body d.font
 font_of height body d some few is after =
-    let all : List (List ℕ) = lines_of body in
-    let stands : StandsAt After d all = subst (λ (at : Place). StandsAt at d all) after (read_stands height d all some few is) in
-    record {
-      is = record { high = stands.high; not_too_high = stands.not_too_high; glyphs = stands.whole; rising = stands.keeps.0 };
-      high = height_after (start height) d all is;
-      spelled = stands.spelled;
-    }
+    let whole = whole_says height (lines_of body) d some few is after in
+    record { is = whole.0; high = whole.1; spelled = whole.2 }
 
 abbrev Says_of : ℕ → List ℕ → Result Draft (ℕ × FontWhy) → Type 0
 Says_of height body r = lines.Describes line_step (start height) place_of (IsFront height) WhyAt why_cut (lines_of body) r
@@ -86,21 +78,6 @@ not_both height body font fault is wrong =
     lines.not_both line_step (start height) place_of (IsFront height) WhyAt why_cut (reading height some few) (lines_of body) After fault.line fault.why (front_of height body font is) refl wrong
 
 -- ---- one of either
-
-same_draft : (o : Result Draft FontWhy) (d e : Draft) → o ≡ Ok d → o ≡ Ok e → d ≡ e
-same_draft o d e one other = cc
-
-abbrev font_with : ℕ → List Glyph → Font
-font_with height glyphs = record { height = height; glyphs = glyphs }
-
--- a font's lines are no other font's of that height
-pub one_font_lines : (height : ℕ) (lines : List (List ℕ)) (a b : Font) → IsFont a → a.height ≡ height → lines ≡ font_lines a → IsFont b → b.height ≡ height → lines ≡ font_lines b → a ≡ b
-one_font_lines height lines a b is high spelled also also_high also_spelled =
-    let r = subst (λ (h : ℕ). ReadsAll h a.glyphs lines) high (all_read a.height a.glyphs lines is.high is.glyphs is.rising spelled) in
-    let s = subst (λ (h : ℕ). ReadsAll h b.glyphs lines) also_high (all_read b.height b.glyphs lines also.high also.glyphs also.rising also_spelled) in
-    let same = same_draft (run (start height) lines) r.draft s.draft r.read s.read in
-    let glyphs : a.glyphs ≡ b.glyphs = ap (λ (f : Font). f.glyphs) (sym r.font ∙ ap (λ (d : Draft). d.font) same ∙ s.font) in
-    ap (λ (h : ℕ). font_with h a.glyphs) (high ∙ sym also_high) ∙ ap (font_with b.height) glyphs
 
 pub one_font : (height : ℕ) (body : List ℕ) (a b : Font) → IsBody height body a → IsBody height body b → a ≡ b
 one_font height body a b is also = one_font_lines height (lines_of body) a b is.is is.high is.spelled also.is also.high also.spelled

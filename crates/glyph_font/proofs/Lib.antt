@@ -1,4 +1,6 @@
+pub mod CallerLemmas
 mod BitLemmas
+mod BlockLaws
 mod DraftLaws
 mod FaultLaws
 mod FontLemmas

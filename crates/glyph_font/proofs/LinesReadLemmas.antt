@@ -50,21 +50,21 @@ front_at Between d front was = record { glyphs = d.font.glyphs; whole = was.whol
 front_at Within d front was = record { glyphs = d.font.glyphs; last = d.last; whole = was.whole; begun = was.keeps.0; lacks = was.keeps.1; rising = was.keeps.2; spelled = was.spelled }
 front_at After d front was = record { glyphs = d.font.glyphs; whole = was.whole; rising = was.keeps.0; spelled = was.spelled }
 
-pub height_after : (d e : Draft) (lines : List (List ℕ)) → run d lines ≡ Ok e → e.font.height ≡ d.font.height
-height_after d e [] is = let same : d ≡ e = cc in ap (λ (x : Draft). x.font.height) (sym same)
-height_after d e (line ∷ lines) is =
+pub height_kept : (d e : Draft) (lines : List (List ℕ)) → run d lines ≡ Ok e → e.font.height ≡ d.font.height
+height_kept d e [] is = let same : d ≡ e = cc in ap (λ (x : Draft). x.font.height) (sym same)
+height_kept d e (line ∷ lines) is =
     let next = on_ok (line_step d line) (λ next. run next lines) e is in
-    height_after next.0 e lines next.2 ∙ height_step d next.0 line (stepped d.place (after_line d line) next.0 next.1)
+    height_kept next.0 e lines next.2 ∙ height_step d next.0 line (stepped d.place (after_line d line) next.0 next.1)
 
 pub read_stands : (height : ℕ) (d : Draft) (lines : List (List ℕ)) → 1 ≤ height → height ≤ 32 → run (start height) lines ≡ Ok d → Stands d lines
 read_stands height d lines some few is = stands_after (start height) d [] lines (start_stands height some few) is
 
 pub front_read_of : (height : ℕ) (d : Draft) (lines : List (List ℕ)) → 1 ≤ height → height ≤ 32 → run (start height) lines ≡ Ok d → IsFront height lines d.place
-front_read_of height d lines some few is = subst (λ (h : ℕ). IsFront h lines d.place) (height_after (start height) d lines is) (front_at d.place d lines (read_stands height d lines some few is))
+front_read_of height d lines some few is = subst (λ (h : ℕ). IsFront h lines d.place) (height_kept (start height) d lines is) (front_at d.place d lines (read_stands height d lines some few is))
 
 -- ---- what is read
 
-at_place : (at : Place) (d : Draft) (line : List ℕ) → d.place ≡ at → after_line d line ≡ after_at at d line
+pub at_place : (at : Place) (d : Draft) (line : List ℕ) → d.place ≡ at → after_line d line ≡ after_at at d line
 unfolding after_line
 at_place at d line is = ap (λ (x : Place). after_at x d line) is
 

@@ -1,20 +1,18 @@
 -- Reading a body line by line: its font, or its first fault.
-use Rattle.std.specs.Prelude.{◌≡◌, ℕ, ◌+◌, ◌<◌, ◌≤◌, Bool, ◌&&◌, ◌||◌, List, [], ◌∷◌, ◌++◌, length, map, Option, Some, None, Result, Ok, Err, ◌==◌, if◌then◌else◌, bytes_eq, codes}
+use Rattle.std.specs.Prelude.{◌≡◌, ℕ, ◌+◌, ◌<◌, ◌≤◌, Bool, true, false, ◌&&◌, ◌||◌, List, [], ◌∷◌, ◌++◌, length, map, Option, Some, None, Result, Ok, Err, ◌==◌, if◌then◌else◌, bytes_eq, codes}
 use Rattle.std.specs.List.{list_all, AllByRecursion}
 use Rattle.spelling.specs.Parts.{lines_of}
 use Rattle.spelling.specs.Words.{◌>>=◌, words_of, after_word, natural_at}
 use Rattle.spelling.specs.LineReading.{read_from}
 use Rattle.glyph_font.specs.declared.place.Place.{Place}
 use Rattle.glyph_font.specs.declared.place.Place.TheVariants.{Between, Within, After}
-use Rattle.glyph_font.specs.declared.draft.LineError.{LineError}
-use Rattle.glyph_font.specs.declared.draft.LineError.TheVariants as line_error
-use Rattle.glyph_font.specs.declared.draft.Draft.{Draft as DraftOfProgram}
+use Rattle.glyph_font.specs.declared.draft.FontLineError.{FontLineError}
+use Rattle.glyph_font.specs.declared.draft.FontLineError.TheVariants as line_error
 use Rattle.glyph_font.specs.declared.fault.FontWhy.{FontWhy}
 use Rattle.glyph_font.specs.declared.fault.FontRefused.{FontRefused}
 use Rattle.glyph_font.specs.declared.fault.FontRefused.TheVariants as refused
 use Rattle.glyph_font.specs.Fonts.{Glyph, Font, IsGlyph, IsRising}
 use Rattle.glyph_font.specs.Faults.{why_at, why_cut}
-use Rattle.glyph_font.specs.Kept.{glyph_from}
 
 -- ---- lines
 
@@ -43,6 +41,19 @@ pub record Draft : Type 0 where
   pub least : ℕ
   pub font : Font
   pub last : Glyph
+
+-- where the next line stands
+abbrev pub place_of : Draft → Place
+place_of d = d.place
+
+-- whether a place is the one after `end`
+abbrev pub is_after : Place → Bool
+is_after After = true
+is_after _ = false
+
+-- whether the font's last line was read
+abbrev pub is_whole : Draft → Bool
+is_whole d = is_after d.place
 
 -- before the first line
 abbrev pub start : ℕ → Draft
@@ -143,14 +154,9 @@ pub record IsDraft (d : Draft) : Type 0 where
 
 -- ---- what the program gives
 
--- what the program's draft says
-abbrev pub draft_of : DraftOfProgram → Draft
-draft_of d =
-    record { place = d.place; least = d.least; font = d.font; last = glyph_from d.rows d.last }
-
 -- what taking a line returned, and left
-abbrev pub Takes : Result (Unit {0}) LineError → DraftOfProgram → Option Draft → Type 0
-Takes (Ok _) new read = read ≡ Some (draft_of new)
+abbrev pub Takes : Result (Unit {0}) FontLineError → Draft → Option Draft → Type 0
+Takes (Ok _) new read = read ≡ Some new
 Takes (Err line_error.Memory) new read = Unit {0}
 Takes (Err line_error.Wrong) new read = read ≡ None
 

@@ -1,13 +1,12 @@
 //! A font as far as it was read.
 
-ghost use Rattle.std.specs.Prelude.{◌≡◌, ◌≤◌, ◌<◌, ◌+◌, [], ◌∷◌, ◌++◌, IfOk, IfSome, length};
+ghost use Rattle.std.specs.Prelude.{◌≡◌, ◌≤◌, [], ◌∷◌, ◌++◌, IfOk, IfSome, length};
 ghost use Rattle.std.specs.List.{list_all};
 ghost use Rattle.spelling.specs.Words.{Gives, words_of};
 ghost use Rattle.glyph_font.specs.declared.place.Place.TheVariants as place;
 ghost use Rattle.glyph_font.specs.Fonts.{IsGlyph, IsRising};
-ghost use Rattle.glyph_font.specs.Kept.{glyph_from};
 ghost use Rattle.glyph_font.specs.Bits.{bits_of};
-ghost use Rattle.glyph_font.specs.Reading.{draft_of, start, begun, with_row, settled, head_of, row_of, is_point, after_between, after_row, after_line, IsDraft, Takes};
+ghost use Rattle.glyph_font.specs.Reading.{start, begun, with_row, settled, is_whole, head_of, row_of, is_point, after_between, after_row, after_line, IsDraft, Takes};
 
 use crate::font::{FIRST_CODE, Font, LAST_CODE};
 use crate::glyph::{Glyph, MOST_POINTS, bits_of};
@@ -15,26 +14,45 @@ use crate::place::Place;
 use gfx_base::Memory;
 use spelling::{after_word, is_done, natural_at};
 use std::alloc::Global;
+use std::marker::Model;
 
 /// Why a line could not be taken.
 #[derive(Clone, Copy, Debug, PartialEq, Eq)]
-pub enum LineError {
+pub enum FontLineError {
     Memory,
+    /// It doesn't go on with the font.
     Wrong,
 }
 
-/// What the lines so far say.
+/// A font as far as its lines were read.
 #[derive(Drop)]
-pub struct Draft {
-    pub place: Place,
+pub struct FontDraft {
+    place: Place,
     /// The least code that the next glyph can have.
-    pub least: u8,
+    least: u8,
     /// The glyphs that are whole.
-    pub font: Font,
+    font: Font,
     /// The glyph that was begun last.
-    pub last: Glyph,
+    last: Glyph,
     /// How many of its rows were read.
-    pub rows: u8,
+    rows: u8,
+}
+
+impl Model for FontDraft {
+    ghost use Rattle.std.specs.Prelude.{◌≤◌};
+    ghost use Rattle.glyph_font.specs.Kept.{glyph_from};
+    ghost use Rattle.glyph_font.specs.Reading.{Draft};
+
+    ghost Value = { Draft };
+
+    ghost view = { λ d. record {
+      place = d.place;
+      least = d.least;
+      font = d.font;
+      last = glyph_from d.rows d.last;
+    } };
+
+    ghost invariant = { λ d. d.rows ≤ 32 };
 }
 
 /// The code, from `least` on, and the width that a glyph's first line spells.
@@ -73,17 +91,18 @@ fn row(width: u8, line: &[u8]) -> Option<u32>
     }
 }
 
-impl Draft {
-    pub fn new(alloc: Global, height: u8) -> Result<Draft, Memory>
+impl FontDraft {
+    /// A font of which no line was read. Its height is from 1 to 32 points.
+    pub fn new(alloc: Global, height: u8) -> Result<FontDraft, Memory>
         requires { (1 ≤ height) × (height ≤ 32) }
-        ensures { IfOk result (λ draft. draft_of draft ≡ start height) }
+        ensures { IfOk result (λ draft. draft ≡ start height) }
     {
         let last = Glyph {
             code: 0,
             width: 0,
             rows: [0; MOST_POINTS],
         };
-        Ok(Draft {
+        Ok(FontDraft {
             place: Place::Between,
             least: FIRST_CODE,
             font: Font::empty(alloc, height)?,
@@ -95,7 +114,7 @@ impl Draft {
     /// Begins a glyph, of which no row was read.
     fn begin(&mut self, code: u8, width: u8)
         requires { code ≤ 126 }
-        ensures { draft_of self.new ≡ begun (draft_of self.old) (code, width) }
+        ensures { self.new ≡ begun self.old (code, width) }
     {
         self.place = Place::Within;
         self.least = code + 1;
@@ -105,15 +124,15 @@ impl Draft {
     }
 
     /// Takes a glyph's first line or `end`.
-    fn take_between(&mut self, line: &[u8]) -> Result<(), LineError>
-        ensures { Takes result self.new (after_between (draft_of self.old) line.now) }
+    fn take_between(&mut self, line: &[u8]) -> Result<(), FontLineError>
+        ensures { Takes result self.new (after_between self.old line.now) }
     {
         if line == b"end".as_slice() {
             self.place = Place::After;
             return Ok(());
         }
         let Some((code, width)) = head(self.least, line) else {
-            return Err(LineError::Wrong);
+            return Err(FontLineError::Wrong);
         };
         self.begin(code, width);
         Ok(())
@@ -122,10 +141,9 @@ impl Draft {
     /// Keeps the last glyph, if it is whole.
     #[tactic(auto, unfolding(crate::specs::Reading::settled))]
     fn settle(&mut self) -> Result<(), Memory>
-        requires glyph { IsGlyph self.old.rows (glyph_from self.old.rows self.old.last) }
-        requires rising { IsRising 32 (self.old.font.glyphs
-            ++ glyph_from self.old.rows self.old.last ∷ []) }
-        ensures { IfOk result (λ _. draft_of self.new ≡ settled (draft_of self.old)) }
+        requires glyph { IsGlyph (length self.old.last.rows) self.old.last }
+        requires rising { IsRising 32 (self.old.font.glyphs ++ self.old.last ∷ []) }
+        ensures { IfOk result (λ _. self.new ≡ settled self.old) }
     {
         if self.rows == self.font.height() {
             self.font.push(self.last)?;
@@ -135,33 +153,55 @@ impl Draft {
     }
 
     /// Takes a row of the last glyph.
-    fn take_row(&mut self, line: &[u8]) -> Result<(), LineError>
-        requires draft { IsDraft (draft_of self.old) }
+    fn take_row(&mut self, line: &[u8]) -> Result<(), FontLineError>
+        requires draft { IsDraft self.old }
         requires place { self.old.place ≡ place.Within }
         ensures { Takes result self.new
-            (after_row (draft_of self.old) (row_of self.old.last.width line.now)) }
+            (after_row self.old (row_of self.old.last.width line.now)) }
     {
         let Some(row) = row(self.last.width, line) else {
-            return Err(LineError::Wrong);
+            return Err(FontLineError::Wrong);
         };
         self.last.rows[usize::from(self.rows)] = row;
         self.rows += 1;
         match self.settle() {
             Ok(()) => Ok(()),
-            Err(Memory) => Err(LineError::Memory),
+            Err(Memory) => Err(FontLineError::Memory),
         }
     }
 
-    /// Takes a line.
+    /// Takes the next line. Of a draft that refused one nothing is said.
     #[tactic(auto, unfolding(crate::specs::Reading::after_line))]
-    pub fn take(&mut self, line: &[u8]) -> Result<(), LineError>
-        requires { IsDraft (draft_of self.old) }
-        ensures { Takes result self.new (after_line (draft_of self.old) line.now) }
+    pub fn take(&mut self, line: &[u8]) -> Result<(), FontLineError>
+        requires { IsDraft self.old }
+        ensures { Takes result self.new (after_line self.old line.now) }
     {
         match self.place {
             Place::Between => self.take_between(line),
             Place::Within => self.take_row(line),
-            Place::After => Err(LineError::Wrong),
+            Place::After => Err(FontLineError::Wrong),
         }
+    }
+
+    /// What the next line has to be.
+    pub(crate) fn place(&self) -> Place
+        ensures { result ≡ self.now.place }
+    {
+        self.place
+    }
+
+    /// Whether the font's last line was read.
+    pub fn is_whole(&self) -> bool
+        ensures { result ≡ is_whole self.now }
+    {
+        self.place == Place::After
+    }
+
+    /// The font, whose last line was read.
+    pub fn into_font(self) -> Font
+        requires { self.place ≡ place.After }
+        ensures { result ≡ self.font }
+    {
+        self.font
     }
 }

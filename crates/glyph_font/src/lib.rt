@@ -9,5 +9,6 @@ pub mod laws;
 mod place;
 mod reader;
 
+pub use draft::{FontDraft, FontLineError};
 pub use fault::{FontFault, FontRefused, FontWhy};
 pub use font::Font;

@@ -4,12 +4,12 @@ ghost use Rattle.std.specs.Prelude.{◌≡◌, ◌≤◌, IfOk, MatchResult};
 ghost use Rattle.glyph_font.specs.declared.fault.FontRefused.{FontRefused};
 ghost use Rattle.glyph_font.specs.Texts.{IsBody};
 ghost use Rattle.glyph_font.specs.Faults.{IsRefused};
-ghost use Rattle.glyph_font.specs.Reading.{draft_of, read_of, Says, SaysFont};
+ghost use Rattle.glyph_font.specs.Reading.{read_of, Says, SaysFont};
 
-use crate::draft::{Draft, LineError};
+use crate::draft::{FontDraft, FontLineError};
 use crate::fault::{FontFault, FontRefused, FontWhy};
 use crate::font::Font;
-use crate::place::{Place, why_at};
+use crate::place::why_at;
 use spelling::first_line;
 use std::alloc::Global;
 
@@ -25,7 +25,7 @@ fn read_lines(alloc: Global, height: u8, body: &[u8]) -> Result<Font, FontRefuse
     ensures { MatchResult result (SaysFont (read_of height body.now))
         (Says (read_of height body.now)) }
 {
-    let Ok(mut draft) = Draft::new(alloc, height) else {
+    let Ok(mut draft) = FontDraft::new(alloc, height) else {
         return Err(FontRefused::Memory);
     };
     let mut rest = body;
@@ -33,17 +33,18 @@ fn read_lines(alloc: Global, height: u8, body: &[u8]) -> Result<Font, FontRefuse
     while !rest.is_empty() {
         let (line, after) = first_line(rest);
         number += 1;
-        let place = draft.place;
+        let place = draft.place();
         match draft.take(line) {
             Ok(()) => {}
-            Err(LineError::Memory) => return Err(FontRefused::Memory),
-            Err(LineError::Wrong) => return Err(fault(number, why_at(place))),
+            Err(FontLineError::Memory) => return Err(FontRefused::Memory),
+            Err(FontLineError::Wrong) => return Err(fault(number, why_at(place))),
         }
         rest = after;
     }
-    match draft.place {
-        Place::After => Ok(draft.font),
-        _ => Err(fault(number + 1, FontWhy::End)),
+    if draft.is_whole() {
+        Ok(draft.into_font())
+    } else {
+        Err(fault(number + 1, FontWhy::End))
     }
 }
 

@@ -1,13 +1,13 @@
 use Rattle.std.proofs.Common.{◌≡◌, ℕ, ◌+◌, List, length}
 use Rattle.spelling.specs.Parts.{lines_of}
-use Rattle.glyph_font.specs.Reading.{draft_of, from_line, read_of}
+use Rattle.glyph_font.specs.Reading.{from_line, read_of}
 use Rattle.glyph_font.proofs.DraftLaws.{Stands}
 use Rattle.glyph_font.proofs.reader.read_lines.Given as goal
 
 abbrev pub invariant-loop-rest : goal.invariant-loop-rest
 invariant-loop-rest l = record {
-  read : from_line (l.number + 1) (draft_of l.draft) (lines_of l.rest) ≡ read_of l.height l.body;
-  stands : (front : List (List ℕ)) × (length front ≡ l.number) × Stands (draft_of l.draft) front;
+  read : from_line (l.number + 1) l.draft (lines_of l.rest) ≡ read_of l.height l.body;
+  stands : (front : List (List ℕ)) × (length front ≡ l.number) × Stands l.draft front;
 }
 
 abbrev pub decreases-loop-rest : goal.decreases-loop-rest
