@@ -1,3 +1,5 @@
+pub mod CallerLemmas
+mod DraftLaws
 mod ExampleLaws
 mod FaultLaws
 mod PushLemmas

@@ -1,7 +1,7 @@
 -- The laws of rows: what is read is spelled so, and what is spelled so is read.
-use Rattle.std.proofs.Common.{◌≡◌, ℕ, zero, suc, ◌-◌, ◌*◌, ◌<◌, ◌≤◌, true, eqb, leb, List, [], ◌∷◌, ◌++◌, length, take, map, Option, Some, None, refl, sym, ap, ◌∙◌, inl, inr, arith, append_assoc}
+use Rattle.std.proofs.Common.{◌≡◌, ℕ, ◌-◌, ◌≤◌, true, eqb, leb, List, [], ◌∷◌, ◌++◌, length, map, Option, Some, None, refl, sym, ap, ◌∙◌, inl, inr, arith, append_assoc}
 use Rattle.std.specs.List.{AllByRecursion, flat_map}
-use Rattle.std.proofs.lemmas.Bool.{eqb-true, leb-true, le-leb, lt-leb}
+use Rattle.std.proofs.lemmas.Bool.{eqb-true, leb-true, le-leb}
 use Rattle.std.proofs.lemmas.Bool.Decides.{nat_tests}
 use Rattle.std.proofs.lemmas.Option.{cond_some}
 use Rattle.std.proofs.lemmas.List.{length-append, length-map, length-replicate}
@@ -83,12 +83,6 @@ onto-onto xs ys (Some more) = ap (λ (ps : List (Option ℕ)). Some ps) (sym (ap
 pub word_fits : (room : ℕ) (word : List ℕ) (words : List (List ℕ)) (run : Run) → run_of word ≡ Some run → run.count ≤ room → points_of room (word ∷ words) ≡ onto (points_of_run run) (points_of (room - run.count) words)
 word_fits room word words run is fits = rw (is, le-leb _ _ fits) refl
 
-pub word_no_run : (room : ℕ) (word : List ℕ) (words : List (List ℕ)) → run_of word ≡ None → points_of room (word ∷ words) ≡ None
-word_no_run room word words is = rw is refl
-
-pub word_too_long : (room : ℕ) (word : List ℕ) (words : List (List ℕ)) (run : Run) → run_of word ≡ Some run → room < run.count → points_of room (word ∷ words) ≡ None
-word_too_long room word words run is over = rw (is, lt-leb _ _ over) refl
-
 -- the points that were read before a word, and after it
 pub word_on : (read : Option (List (Option ℕ))) (done : List (Option ℕ)) (room : ℕ) (word : List ℕ) (words : List (List ℕ)) (run : Run) → read ≡ onto done (points_of room (word ∷ words)) → run_of word ≡ Some run → run.count ≤ room
     → read ≡ onto (done ++ points_of_run run) (points_of (room - run.count) words)
@@ -111,20 +105,7 @@ row_again width line row is wide =
     ap (λ (l : List ℕ). points_of width (words_of l)) is.spelled ∙ ap (points_of width) (words_whole is.runs is.some is.each)
     ∙ words_again is.runs width is.each (sym (ap length is.shown) ∙ wide) ∙ ap (λ (r : List (Option ℕ)). Some r) (sym is.shown)
 
--- a line is one row's
-pub one_row : (width : ℕ) (line : List ℕ) (row other : List (Option ℕ)) → SpellsRow line row → length row ≡ width → SpellsRow line other → length other ≡ width → row ≡ other
-one_row width line row other is wide also wide_too = same_Some row other (sym (row_again width line row is wide) ∙ row_again width line other also wide_too)
-
 -- ---- several rows
-
-pub one_list : (width : ℕ) (lines : List (List ℕ)) (rows others : List (List (Option ℕ))) → AreRows width lines rows → AreRows width lines others → rows ≡ others
-one_list width [] [] [] is also = refl
-one_list width [] [] (other ∷ others) is also = absurd also
-one_list width [] (row ∷ rows) others is also = absurd is
-one_list width (line ∷ lines) [] others is also = absurd is
-one_list width (line ∷ lines) (row ∷ rows) [] is also = absurd also
-one_list width (line ∷ lines) (row ∷ rows) (other ∷ others) is also =
-    ap (λ (r : List (Option ℕ)). r ∷ rows) (one_row width line row other is.0 is.1 also.0 also.1) ∙ ap (λ (rs : List (List (Option ℕ))). other ∷ rs) (one_list width lines rows others is.2 also.2)
 
 pub as_many : (width : ℕ) (lines : List (List ℕ)) (rows : List (List (Option ℕ))) → AreRows width lines rows → length lines ≡ length rows
 as_many width [] [] is = refl
@@ -132,31 +113,8 @@ as_many width [] (row ∷ rows) is = absurd is
 as_many width (line ∷ lines) [] is = absurd is
 as_many width (line ∷ lines) (row ∷ rows) is = let more = as_many width lines rows is.2 in omega arith
 
-pub count_points : (width : ℕ) (lines : List (List ℕ)) (rows : List (List (Option ℕ))) → AreRows width lines rows → length (flat_map (λ row. row) rows) ≡ length rows * width
-count_points width [] [] is = omega arith
-count_points width [] (row ∷ rows) is = absurd is
-count_points width (line ∷ lines) [] is = absurd is
-count_points width (line ∷ lines) (row ∷ rows) is =
-    let more = count_points width lines rows is.2 in
-    let both = length-append row (flat_map (λ row. row) rows) in
-    let wide = is.1 in
-    omega arith
-
 pub one_more : (width : ℕ) (lines : List (List ℕ)) (rows : List (List (Option ℕ))) (line : List ℕ) (row : List (Option ℕ)) → AreRows width lines rows → SpellsRow line row → length row ≡ width → AreRows width (lines ++ line ∷ []) (rows ++ row ∷ [])
 one_more width [] [] line row is spelled wide = (spelled, wide, tt)
 one_more width [] (other ∷ rows) line row is spelled wide = absurd is
 one_more width (first ∷ lines) [] line row is spelled wide = absurd is
 one_more width (first ∷ lines) (other ∷ rows) line row is spelled wide = (is.0, is.1, one_more width lines rows line row is.2 spelled wide)
-
-pub last_row : (width : ℕ) (lines : List (List ℕ)) (rows : List (List (Option ℕ))) (line : List ℕ) → AreRows width (lines ++ line ∷ []) rows → (row : List (Option ℕ)) × SpellsRow line row × (length row ≡ width)
-last_row width [] [] line is = absurd is
-last_row width [] (row ∷ rows) line is = (row, is.0, is.1)
-last_row width (first ∷ lines) [] line is = absurd is
-last_row width (first ∷ lines) (row ∷ rows) line is = last_row width lines rows line is.2
-
-pub first_rows : (width n : ℕ) (lines : List (List ℕ)) (rows : List (List (Option ℕ))) → AreRows width lines rows → AreRows width (take n lines) (take n rows)
-first_rows width zero lines rows is = tt
-first_rows width (suc n) [] [] is = tt
-first_rows width (suc n) [] (row ∷ rows) is = absurd is
-first_rows width (suc n) (line ∷ lines) [] is = absurd is
-first_rows width (suc n) (line ∷ lines) (row ∷ rows) is = (is.0, is.1, first_rows width n lines rows is.2)

@@ -1,5 +1,5 @@
 -- The laws of a row's words: what is read is spelled so, and what is spelled so is read.
-use Rattle.std.proofs.Common.{◌≡◌, ℕ, ◌^◌, ◌<◌, ◌≤◌, Bool, true, false, cond, eqb, leb, List, [], ◌∷◌, ◌++◌, length, Option, Some, None, refl, sym, ap, subst, ◌∙◌, inl, inr, arith, lit<}
+use Rattle.std.proofs.Common.{◌≡◌, ℕ, ◌^◌, ◌<◌, ◌≤◌, Bool, true, false, cond, eqb, List, [], ◌∷◌, ◌++◌, length, Option, Some, None, refl, sym, ap, subst, ◌∙◌, inl, inr, arith, lit<}
 use Rattle.std.specs.Prelude.{bytes_eq, codes, IfSome}
 use Rattle.std.specs.List.{join_with_byte}
 use Rattle.std.specs.Fmt.{decimal}
@@ -14,7 +14,7 @@ use Rattle.spelling.proofs.CallerLemmas.{IsWhole}
 use Rattle.spelling.proofs.CallerLemmas.{bind_some, chosen, named, natural_in_takes, natural_in_again, colour_takes, colour_again, colour_no_dash, colour_whole, natural_whole}
 use Rattle.std.proofs.lemmas.Option.{same_Some}
 use Rattle.bitmap.specs.Texts.{Run, IsRun, text_of_point, text_of_run}
-use Rattle.bitmap.specs.Reading.{point_from, point_of, count_of, run_of_parts, run_of}
+use Rattle.bitmap.specs.Reading.{point_of, count_of, run_of_parts, run_of}
 
 -- ---- points
 
@@ -35,12 +35,6 @@ pub point_again : (p : Option ℕ) → IfSome p (λ c. c < 2 ^ 24) → point_of 
 unfolding point_of
 point_again None small = refl
 point_again (Some c) small = rw (colour_no_dash c, colour_again c small) refl
-
--- the kept points are colours
-pub colour_kept : (c : ℕ) → c ≤ 16777215 → point_from c ≡ Some c
-colour_kept c small =
-    let test : leb c 16777215 ≡ true = grind (arith, nat_tests) in
-    rw test refl
 
 digit_no_star : (d : ℕ) → eqb (hex_digit d) 42 ≡ false
 digit_no_star d = grind (arith, nat_tests)

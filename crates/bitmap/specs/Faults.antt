@@ -2,6 +2,8 @@
 use Rattle.std.specs.Prelude.{◌≡◌, ℕ, ◌≤◌, List, [], ◌∷◌, ◌++◌, length, Option, Some, None, if◌then◌else◌, nat_lt, codes}
 use Rattle.spelling.specs.Parts.{lines_of}
 use Rattle.spelling.specs.FirstFaults.{IsFirstFault}
+use Rattle.bitmap.specs.declared.place.Place.{Place}
+use Rattle.bitmap.specs.declared.place.Place.TheVariants.{AfterRows, AfterEnd}
 use Rattle.bitmap.specs.declared.fault.BitmapWhy.{BitmapWhy}
 use Rattle.bitmap.specs.declared.fault.BitmapWhy.TheVariants as why
 use Rattle.bitmap.specs.declared.fault.BitmapFault.{BitmapFault}
@@ -10,11 +12,6 @@ use Rattle.bitmap.specs.declared.fault.BitmapRefused.TheVariants as refused
 use Rattle.bitmap.specs.Texts.{AreRows}
 
 -- ---- what the first lines of a bitmap are, by the place after them
-
--- after so many rows, or after the line `end`
-pub data Place : Type 0 where
-  AfterRows : ℕ → Place
-  AfterEnd : Place
 
 -- so many rows, at most all of them
 pub record AreFirstRows (width height : ℕ) (lines : List (List ℕ)) (many : ℕ) : Type 0 where
@@ -31,7 +28,8 @@ pub record AreAll (width height : ℕ) (lines : List (List ℕ)) : Type 0 where
   pub count : length rows ≡ height
   pub spelled : lines ≡ before ++ codes "end" ∷ []
 
--- the lines are the first ones of a bitmap, and after them stands this place
+-- the lines are the first ones of a bitmap, and after them stands this place: after so many rows,
+-- or after the line `end`
 abbrev pub IsFront : ℕ → ℕ → List (List ℕ) → Place → Type 0
 IsFront width height lines (AfterRows many) = AreFirstRows width height lines many
 IsFront width height lines AfterEnd = AreAll width height lines

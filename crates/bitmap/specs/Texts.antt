@@ -50,13 +50,17 @@ AreRows width (line ∷ lines) (row ∷ rows) =
 
 -- ---- bodies
 
--- the body is a text of this bitmap, which has these sides: its rows, and the line `end`
-pub record IsBody (width height : ℕ) (body : List ℕ) (b : Bitmap) : Type 0 where
+-- the lines of this bitmap, which has these sides: its rows, and the line `end`
+pub record AreLinesOf (width height : ℕ) (lines : List (List ℕ)) (b : Bitmap) : Type 0 where
   pub wide : b.width ≡ width
   pub high : b.height ≡ height
-  pub lines : List (List ℕ)
+  pub before : List (List ℕ)
   pub rows : List (List (Option ℕ))
   pub count : length rows ≡ height
-  pub each : AreRows width lines rows
+  pub each : AreRows width before rows
   pub shown : b.points ≡ flat_map (λ row. row) rows
-  pub spelled : lines_of body ≡ lines ++ codes "end" ∷ []
+  pub spelled : lines ≡ before ++ codes "end" ∷ []
+
+-- the body is a text of this bitmap, which has these sides
+abbrev pub IsBody : ℕ → ℕ → List ℕ → Bitmap → Type 0
+IsBody width height body b = AreLinesOf width height (lines_of body) b

@@ -2,10 +2,13 @@
 #![tactic(auto)]
 
 mod bitmap;
+mod draft;
 mod fault;
 pub mod laws;
+mod place;
 mod reader;
 mod row;
 
 pub use crate::bitmap::Bitmap;
-pub use fault::{BitmapFault, BitmapRefused, BitmapWhy};
+pub use draft::BitmapDraft;
+pub use fault::{BitmapFault, BitmapLineError, BitmapRefused, BitmapWhy};

@@ -5,6 +5,7 @@ ghost use Rattle.spelling.specs.Parts.{parts_left};
 ghost use Rattle.spelling.specs.Words.{Gives};
 ghost use Rattle.bitmap.specs.Reading.{point_from, run_from, point_of, count_of, run_of, row_of, Adds};
 
+use crate::fault::BitmapLineError;
 use spelling::{colour, cut_at, natural_in, word_at};
 
 /// The value that stands for a transparent point: it is above that of each colour.
@@ -12,13 +13,6 @@ const TRANSPARENT: u32 = 0x100_0000;
 
 /// The most points of a run.
 const MOST_POINTS: u16 = 256;
-
-/// Why a row could not be added.
-#[derive(Clone, Copy, Debug, PartialEq, Eq)]
-pub enum LineError {
-    Memory,
-    Wrong,
-}
 
 /// Points of one value, one after the other.
 #[derive(Clone, Copy)]
@@ -63,7 +57,7 @@ fn run_of(word: &[u8]) -> Option<Run>
 
 /// Adds the points of the row that a line spells.
 #[tactic(auto, unfolding(crate::specs::Reading::row_of))]
-pub fn push_row(points: &mut Vec<u32>, width: u16, line: &[u8]) -> Result<(), LineError>
+pub fn push_row(points: &mut Vec<u32>, width: u16, line: &[u8]) -> Result<(), BitmapLineError>
     requires few { (vec_len points.old ≤ 65536) × (width ≤ 256) }
     ensures { Adds result points.old.items points.new.items (row_of width line.now) }
 {
@@ -71,16 +65,16 @@ pub fn push_row(points: &mut Vec<u32>, width: u16, line: &[u8]) -> Result<(), Li
     let mut rest = Some(line);
     while let Some((word, after)) = word_at(rest) {
         let Some(run) = run_of(word) else {
-            return Err(LineError::Wrong);
+            return Err(BitmapLineError::Wrong);
         };
         if run.count > room {
-            return Err(LineError::Wrong);
+            return Err(BitmapLineError::Wrong);
         }
         if points
             .resize(points.len() + usize::from(run.count), run.value)
             .is_err()
         {
-            return Err(LineError::Memory);
+            return Err(BitmapLineError::Memory);
         }
         room -= run.count;
         rest = after;
@@ -88,6 +82,6 @@ pub fn push_row(points: &mut Vec<u32>, width: u16, line: &[u8]) -> Result<(), Li
     if room == 0 {
         Ok(())
     } else {
-        Err(LineError::Wrong)
+        Err(BitmapLineError::Wrong)
     }
 }
