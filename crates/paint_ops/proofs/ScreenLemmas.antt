@@ -14,7 +14,7 @@ use Rattle.line_ink.specs.Lines.{is_on_line}
 use Rattle.bitmap.specs.Bitmaps.{Bitmap}
 use Rattle.glyph_font.specs.Fonts.{Font}
 use Rattle.frame.specs.Pictures.{Picture, HasShape}
-use Rattle.paint_ops.specs.declared.num.Num.{Num}
+use Rattle.gfx_base.specs.declared.num.Num.{Num}
 use Rattle.paint_ops.specs.declared.op.Op.{Op}
 use Rattle.paint_ops.specs.declared.op.Op.TheVariants as op
 use Rattle.paint_ops.specs.declared.strip.Strip.{Strip}

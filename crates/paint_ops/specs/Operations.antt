@@ -8,9 +8,9 @@ use Rattle.gfx_base.specs.Rects.{has, point_at}
 use Rattle.line_ink.specs.Lines.{is_on_line}
 use Rattle.bitmap.specs.Bitmaps.{Bitmap, colour_at}
 use Rattle.glyph_font.specs.Fonts.{Font, width_of_code, is_set}
-use Rattle.paint_ops.specs.declared.num.Base.{Base}
-use Rattle.paint_ops.specs.declared.num.Base.TheVariants.{Zero, Width, Height, Value}
-use Rattle.paint_ops.specs.declared.num.Num.{Num}
+use Rattle.gfx_base.specs.declared.num.Base.{Base}
+use Rattle.gfx_base.specs.declared.num.Base.TheVariants.{Zero, Width, Height, Value}
+use Rattle.gfx_base.specs.declared.num.Num.{Num}
 use Rattle.paint_ops.specs.declared.op.Op.{Op}
 use Rattle.paint_ops.specs.declared.op.Op.TheVariants as op
 use Rattle.paint_ops.specs.Kinds.{Assets, bitmap_at, font_at, string_at}

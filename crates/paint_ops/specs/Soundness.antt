@@ -1,23 +1,13 @@
 -- Which assets are sound, so that all that operations name is there.
 use Rattle.std.specs.Prelude.{◌<◌, ◌≤◌, length}
 use Rattle.std.specs.List.{AllByRecursion}
-use Rattle.paint_ops.specs.declared.num.Base.{Base}
-use Rattle.paint_ops.specs.declared.num.Base.TheVariants.{Value}
-use Rattle.paint_ops.specs.declared.num.Num.{Num}
+pub use Rattle.gfx_base.specs.Nums.{IsBase, IsNum}
 use Rattle.paint_ops.specs.declared.op.Op.{Op}
 use Rattle.paint_ops.specs.declared.op.Op.TheVariants as op
 use Rattle.paint_ops.specs.declared.class.React.{React}
 use Rattle.paint_ops.specs.declared.class.React.TheVariants as react
 use Rattle.paint_ops.specs.declared.class.Reaction.{Reaction}
 use Rattle.paint_ops.specs.Kinds.{Class, Assets}
-
--- a window has sixteen values
-abbrev pub IsBase : Base → Type 0
-IsBase (Value i) = i < 16
-IsBase _ = Unit {0}
-
-abbrev pub IsNum : Num → Type 0
-IsNum num = IsBase num.base
 
 -- the operation names only values, fonts, bitmaps and strings that exist
 abbrev pub IsOperation : Assets → Op → Type 0

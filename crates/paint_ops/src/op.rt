@@ -1,5 +1,4 @@
-use crate::num::Num;
-use gfx_base::Colour;
+use gfx_base::{Colour, Num};
 
 /// A drawing operation. Its coordinates are local: from the upper left corner of the window. Both
 /// ends of a range belong to it, and a range whose last number is below its first has no point.

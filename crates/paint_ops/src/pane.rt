@@ -1,10 +1,9 @@
 ghost use Rattle.std.specs.Prelude.{◌≡◌, pos, neg_ℤ, ◌≤ℤ◌};
 ghost use Rattle.gfx_base.specs.Range.{IsNear};
-ghost use Rattle.paint_ops.specs.Soundness.{IsBase, IsNum};
+ghost use Rattle.gfx_base.specs.Nums.{IsBase, IsNum};
 ghost use Rattle.paint_ops.specs.Operations.{base_of, number_of, point_of_numbers, rect_of};
 
-use crate::num::{Base, Num};
-use gfx_base::{Point, Rect};
+use gfx_base::{Base, Num, Point, Rect};
 
 /// A window as its operations see it: its values, its size in points, and where its upper left
 /// corner lies on the screen.

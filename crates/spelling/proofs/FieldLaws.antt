@@ -1,14 +1,18 @@
 -- The laws of fields: what is read is spelled so, and what is spelled so is read.
-use Rattle.std.proofs.Common.{◌≡◌, ℕ, ◌<◌, ◌≤◌, Bool, true, false, List, [], ◌∷◌, ◌++◌, Option, Some, None, refl, sym, ap, subst, ◌∙◌, inl, inr, arith}
-use Rattle.std.specs.Prelude.{bytes_eq, not}
+use Rattle.std.proofs.Common.{◌≡◌, ℕ, ◌<◌, ◌≤◌, Bool, true, false, List, [], ◌∷◌, ◌++◌, Option, Some, None, refl, sym, ap, subst, ◌∙◌, inl, inr, arith, ℤ}
+use Rattle.std.specs.Prelude.{bytes_eq, not, is_some, FitsSigned}
+use Rattle.std.specs.Int.{w16}
+use Rattle.std.specs.Fmt.{signed_decimal}
 use Rattle.std.specs.List.{AllByRecursion}
 use Rattle.std.proofs.lemmas.Bool.{and_parts, ltb-true}
 use Rattle.std.proofs.lemmas.List.{append-nil}
 use Rattle.std.proofs.lemmas.Option.{same_Some}
-use Rattle.spelling.specs.Words.{◌>>=◌, words_of, first_word, after_word, colour_of}
+use Rattle.spelling.specs.Words.{◌>>=◌, words_of, first_word, after_word, number_of, colour_of}
 use Rattle.spelling.proofs.CutLemmas.{IsWhole, parts-join}
+use Rattle.spelling.proofs.NumberSpellings.{number_takes, number_again}
+use Rattle.spelling.proofs.CoordinateLaws.{num_at_takes, num_at_again, num_whole}
 use Rattle.spelling.proofs.SpellingLaws.{bind_some, chosen, onto, word_takes, after_word_takes, after_word_again, line_from_words, named, same_name, nothing_left, number_at_takes, number_at_again, natural_at_takes, natural_at_again, colour_takes, colour_again, whole_by_test, natural_whole, number_whole, colour_whole}
-use Rattle.spelling.specs.Fields.{Field, Natural, Number, Colour, Choice, ValueOf, text_of, IsIn, Values, texts_of, AreIn, is_word, is_field, are_fields, Makes, made, taking, colour_at, choice_of, choice_at, value_at, read_fields, all_of, values_of, text_with, line_values}
+use Rattle.spelling.specs.Fields.{Field, Natural, Number, NumberOr, Coordinate, Colour, Choice, number_or_word, ValueOf, text_of, IsIn, Values, texts_of, AreIn, is_word, is_field, are_fields, Makes, made, taking, number_or_of, number_or_at, colour_at, choice_of, choice_at, value_at, read_fields, all_of, values_of, text_with, line_values}
 
 -- ---- one field
 
@@ -41,15 +45,54 @@ choice_at_takes first second words x e =
     subst (λ (y : Bool × List (List ℕ)). words ≡ text_of (Choice first second) y.0 ∷ y.1) (same_Some (b.0, w.0.1) x b.2)
     (word_takes words w.0 w.1 ∙ ap (λ (v : List ℕ). v ∷ w.0.1) spelled)
 
+number_or_takes : (name word : List ℕ) (v : Option ℤ) → number_or_of name word ≡ Some v → (word ≡ text_of (NumberOr name) v) × IsIn (NumberOr name) v
+number_or_takes name word v e =
+    elim (chosen (bytes_eq word name) (Some None) _ (Some v) e) [
+      | inl same ↦ subst (λ (o : Option ℤ). (word ≡ number_or_word name o) × IsIn (NumberOr name) o) (same_Some None v same.1) (named word name same.0, tt)
+      | inr other ↦
+          let z = bind_some (number_of word) (λ z. Some (Some z)) v other.1 in
+          subst (λ (o : Option ℤ). (word ≡ number_or_word name o) × IsIn (NumberOr name) o) (same_Some (Some z.0) v z.2) (number_takes word z.0 z.1)
+    ]
+
+number_or_at_takes : (name : List ℕ) (words : List (List ℕ)) (x : Option ℤ × List (List ℕ)) → number_or_at name words ≡ Some x → (words ≡ text_of (NumberOr name) x.0 ∷ x.1) × IsIn (NumberOr name) x.0
+unfolding number_or_at
+number_or_at_takes name words x e =
+    let w = bind_some (first_word words) _ x e in
+    let v = bind_some (number_or_of name w.0.0) _ x w.2 in
+    let spelled = number_or_takes name w.0.0 v.0 v.1 in
+    subst (λ (y : Option ℤ × List (List ℕ)). (words ≡ number_or_word name y.0 ∷ y.1) × IsIn (NumberOr name) y.0) (same_Some (v.0, w.0.1) x v.2)
+    (word_takes words w.0 w.1 ∙ ap (λ (t : List ℕ). t ∷ w.0.1) spelled.0, spelled.1)
+
 pub value_takes : (f : Field) (words : List (List ℕ)) (x : ValueOf f × List (List ℕ)) → value_at f words ≡ Some x → (words ≡ text_of f x.0 ∷ x.1) × IsIn f x.0
 value_takes (Natural low high) words x e = let t = natural_at_takes low high words x e in (t.0, (t.1, t.2))
 value_takes Number words x e = number_at_takes words x e
+value_takes (NumberOr word) words x e = number_or_at_takes word words x e
+value_takes Coordinate words x e = num_at_takes words x e
 value_takes Colour words x e = colour_at_takes words x e
 value_takes (Choice first second) words x e = (choice_at_takes first second words x e, tt)
 
 not_true : (b : Bool) → not b ≡ true → b ≡ false
 not_true true e = absurd cc
 not_true false e = refl
+
+no_test : (b : Bool) → (b ≡ true → ⊥) → b ≡ false
+no_test true never = absurd (never refl)
+no_test false never = refl
+
+-- a number's spelling isn't the word
+number_no_name : (name : List ℕ) (z : ℤ) → not (is_some (number_of name)) ≡ true → FitsSigned w16 z → bytes_eq (signed_decimal z) name ≡ false
+number_no_name name z differ fits =
+    no_test (bytes_eq (signed_decimal z) name) (λ same.
+    let spelled : number_of name ≡ Some z = ap number_of (sym (named (signed_decimal z) name same)) ∙ number_again z fits in
+    absurd (cc (sym differ ∙ ap (λ (o : Option ℤ). not (is_some o)) spelled)))
+
+number_or_again : (name : List ℕ) (v : Option ℤ) → not (is_some (number_of name)) ≡ true → IsIn (NumberOr name) v → number_or_of name (text_of (NumberOr name) v) ≡ Some v
+number_or_again name None differ is = rw (same_name name) refl
+number_or_again name (Some z) differ is = rw (number_no_name name z differ is, number_again z is) refl
+
+number_or_at_again : (name : List ℕ) (v : Option ℤ) (rest : List (List ℕ)) → not (is_some (number_of name)) ≡ true → IsIn (NumberOr name) v → number_or_at name (text_of (NumberOr name) v ∷ rest) ≡ Some (v, rest)
+unfolding number_or_at
+number_or_at_again name v rest differ is = ap (λ (o : Option (Option ℤ)). o >>= λ u. Some (u, rest)) (number_or_again name v differ is)
 
 choice_again : (first second : List ℕ) (b : Bool) → not (bytes_eq second first) ≡ true → choice_of first second (text_of (Choice first second) b) ≡ Some b
 choice_again first second false differ = rw (same_name first) refl
@@ -66,6 +109,8 @@ colour_at_again c rest small = ap (λ (o : Option ℕ). o >>= λ v. Some (v, res
 pub value_again : (f : Field) (v : ValueOf f) (rest : List (List ℕ)) → is_field f ≡ true → IsIn f v → value_at f (text_of f v ∷ rest) ≡ Some (v, rest)
 value_again (Natural low high) n rest field is = natural_at_again low high n rest is.0 is.1 (ltb-true _ _ field)
 value_again Number z rest field is = number_at_again z rest is
+value_again (NumberOr word) v rest field is = number_or_at_again word v rest (and_parts (is_word word) _ field).1 is
+value_again Coordinate num rest field is = num_at_again num rest is
 value_again Colour c rest field is = colour_at_again c rest is
 value_again (Choice first second) b rest field is = choice_at_again first second b rest (and_parts (not (bytes_eq second first)) _ field).0
 
@@ -73,12 +118,18 @@ choice_whole : (first second : List ℕ) (b : Bool) → is_word first ≡ true �
 choice_whole first second false one two = whole_by_test first one
 choice_whole first second true one two = whole_by_test second two
 
+number_or_whole : (name : List ℕ) (v : Option ℤ) → is_word name ≡ true → IsIn (NumberOr name) v → IsWhole 32 (text_of (NumberOr name) v)
+number_or_whole name None word is = whole_by_test name word
+number_or_whole name (Some z) word is = number_whole z is
+
 pub value_whole : (f : Field) (v : ValueOf f) → is_field f ≡ true → IsIn f v → IsWhole 32 (text_of f v)
 value_whole (Natural low high) n field is =
     let small : high < 4294967296 = ltb-true _ _ field in
     let below : n ≤ high = is.1 in
     natural_whole n (omega arith)
 value_whole Number z field is = number_whole z is
+value_whole (NumberOr word) v field is = number_or_whole word v (and_parts (is_word word) _ field).0 is
+value_whole Coordinate num field is = num_whole num is
 value_whole Colour c field is = colour_whole c
 value_whole (Choice first second) b field is =
     let parts = and_parts (not (bytes_eq second first)) _ field in

@@ -1,18 +1,22 @@
 -- The fields of a line: what each is, how it is written, and how it is read.
-use Rattle.std.specs.Prelude.{◌≡◌, ℕ, ◌^◌, ◌<◌, ◌≤◌, ℤ, Bool, true, false, not, ◌&&◌, List, [], ◌∷◌, length, Option, Some, None, nat_lt, ◌==◌, if◌then◌else◌, bytes_eq, FitsSigned}
+use Rattle.std.specs.Prelude.{◌≡◌, ℕ, ◌^◌, ◌<◌, ◌≤◌, ℤ, Bool, true, false, not, ◌&&◌, List, [], ◌∷◌, length, Option, Some, None, nat_lt, ◌==◌, if◌then◌else◌, bytes_eq, FitsSigned, IfSome, is_some}
 use Rattle.std.specs.List.{list_all}
 use Rattle.std.specs.Fmt.{decimal, signed_decimal}
 use Rattle.std.specs.Int.{w16}
 use Rattle.spelling.specs.Digits.{hex_colour}
-use Rattle.spelling.specs.Words.{◌>>=◌, first_word, after_word, number_at, natural_at, colour_of, text_of_words}
+use Rattle.gfx_base.specs.declared.num.Num.{Num}
+use Rattle.spelling.specs.Words.{◌>>=◌, first_word, after_word, number_of, number_at, natural_at, colour_of, text_of_words}
+use Rattle.spelling.specs.Coordinates.{text_of_num, NumFits, num_at}
 
 -- ---- kinds of fields
 
--- A field is a natural number from the first to the second, a number of 16 bits, a colour, or one of
--- two words.
+-- A field is a natural number from the first to the second, a number of 16 bits, such a number or
+-- one word, a coordinate, a colour, or one of two words.
 pub data Field : Type 0 where
   Natural : ℕ → ℕ → Field
   Number : Field
+  NumberOr : List ℕ → Field
+  Coordinate : Field
   Colour : Field
   Choice : List ℕ → List ℕ → Field
 
@@ -20,13 +24,22 @@ pub data Field : Type 0 where
 abbrev pub ValueOf : Field → Type 0
 ValueOf (Natural low high) = ℕ
 ValueOf Number = ℤ
+ValueOf (NumberOr word) = Option ℤ
+ValueOf Coordinate = Num
 ValueOf Colour = ℕ
 ValueOf (Choice first second) = Bool
+
+-- a number, or this word
+abbrev pub number_or_word : List ℕ → Option ℤ → List ℕ
+number_or_word word None = word
+number_or_word word (Some z) = signed_decimal z
 
 -- the one word of a value
 abbrev pub text_of : (f : Field) → ValueOf f → List ℕ
 text_of (Natural low high) n = decimal n
 text_of Number z = signed_decimal z
+text_of (NumberOr word) v = number_or_word word v
+text_of Coordinate num = text_of_num num
 text_of Colour c = hex_colour c
 text_of (Choice first second) b = if b then second else first
 
@@ -34,6 +47,8 @@ text_of (Choice first second) b = if b then second else first
 abbrev pub IsIn : (f : Field) → ValueOf f → Type 0
 IsIn (Natural low high) n = (low ≤ n) × (n ≤ high)
 IsIn Number z = FitsSigned w16 z
+IsIn (NumberOr word) v = IfSome v (λ z. FitsSigned w16 z)
+IsIn Coordinate num = NumFits num
 IsIn Colour c = c < 2 ^ 24
 IsIn (Choice first second) b = Unit {0}
 
@@ -41,10 +56,13 @@ IsIn (Choice first second) b = Unit {0}
 abbrev pub is_word : List ℕ → Bool
 is_word word = list_all (λ b. not (b == 32)) word
 
--- a field whose values have one word each: numbers of 32 bits, and two words that differ
+-- a field whose values have one word each: numbers of 32 bits, a word that spells no number, and
+-- two words that differ
 abbrev pub is_field : Field → Bool
 is_field (Natural low high) = nat_lt high 4294967296
 is_field Number = true
+is_field (NumberOr word) = is_word word && not (is_some (number_of word))
+is_field Coordinate = true
 is_field Colour = true
 is_field (Choice first second) = not (bytes_eq second first) && (is_word first && is_word second)
 
@@ -90,6 +108,17 @@ colour_at words = do
   c ← colour_of w.0
   Some (c, w.1)
 
+-- the number that a word spells, or that it is this one
+abbrev pub number_or_of : List ℕ → List ℕ → Option (Option ℤ)
+number_or_of name word =
+    if bytes_eq word name then Some None else number_of word >>= λ z. Some (Some z)
+
+unfoldable pub number_or_at : List ℕ → List (List ℕ) → Option (Option ℤ × List (List ℕ))
+number_or_at name words = do
+  w ← first_word words
+  v ← number_or_of name w.0
+  Some (v, w.1)
+
 -- which of two words a word is
 abbrev pub choice_of : List ℕ → List ℕ → List ℕ → Option Bool
 choice_of first second word =
@@ -106,6 +135,8 @@ choice_at first second words = do
 abbrev pub value_at : (f : Field) → List (List ℕ) → Option (ValueOf f × List (List ℕ))
 value_at (Natural low high) words = natural_at low high words
 value_at Number words = number_at words
+value_at (NumberOr word) words = number_or_at word words
+value_at Coordinate words = num_at words
 value_at Colour words = colour_at words
 value_at (Choice first second) words = choice_at first second words
 

@@ -2,10 +2,11 @@
 
 ghost use Rattle.std.specs.Prelude.{◌≡◌, ◌≤◌, ◌==◌, length, IfSome};
 ghost use Rattle.spelling.specs.Words.{left, first_word, number_at, natural_at};
-ghost use Rattle.spelling.specs.Fields.{Reads, colour_at, choice_at};
+ghost use Rattle.spelling.specs.Fields.{Reads, number_or_at, colour_at, choice_at};
+ghost use Rattle.spelling.specs.Coordinates.{num_at};
 
-use crate::{hex, words};
-use gfx_base::Colour;
+use crate::{hex, num, words};
+use gfx_base::{Colour, Num};
 
 /// The words of a line that are left. Each call takes the next one, where it is a field of its
 /// kind; where it isn't, it answers None and takes none.
@@ -32,6 +33,28 @@ impl<'l> Args<'l> {
         let (number, rest) = words::number_at(self.rest)?;
         self.rest = rest;
         Some(number)
+    }
+
+    /// The next word as a number from -32,768 to 32,767, or as no number where it is `name`.
+    #[tactic(auto, unfolding(crate::specs::Fields::number_or_at))]
+    pub fn number_or(&mut self, name: &[u8]) -> Option<Option<i16>>
+        ensures { Reads (λ v. v) result (left self.new.rest)
+            (number_or_at name.now (left self.old.rest)) }
+    {
+        let word = self.word()?;
+        if word == name {
+            Some(None)
+        } else {
+            Some(Some(words::number(word)?))
+        }
+    }
+
+    /// The next word as a coordinate.
+    #[tactic(auto, unfolding(crate::specs::Coordinates::num_at))]
+    pub fn coordinate(&mut self) -> Option<Num>
+        ensures { Reads (λ num. num) result (left self.new.rest) (num_at (left self.old.rest)) }
+    {
+        num::num(self.word()?)
     }
 
     /// The next word as a number from `low` to `high`.

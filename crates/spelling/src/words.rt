@@ -40,7 +40,7 @@ pub fn is_done(rest: Option<&[u8]>) -> bool
 }
 
 /// The number that a word spells. Writing it again refuses the other spellings that `parse` takes.
-fn number(word: &[u8]) -> Option<i16>
+pub fn number(word: &[u8]) -> Option<i16>
     ensures { result ≡ number_of word.now }
 {
     let text = str::from_utf8(word).ok()?;
