@@ -139,6 +139,18 @@ fn scripts_are_played_and_painted(rt: HostRuntime) -> Result<(), Fail> {
             000000*4\nok\nok\nok\nok 3\nok\nok 3\nframe 4 1\n0000FF*2 000000*2\n\
             done calls 20 refused 0 shown 0 windows 3\n",
         ),
+        // Operations in order, over the back colour and inside the window.
+        (
+            "play F",
+            "mtgui 1\nscreen 8 4\nbuffers 1\ndesktop 000000\nclass 1 0000FF\n\
+            on 1 set 0 1\nframe 0 0 w-1 h-1 FFFFFF\nhline 1 w+3 1 FF0000\n\
+            vline w-1 0 v0+1 00FF00\nend\n1 create 1 1 0 5 4 1\n1 exec\n1 scan\n",
+            0,
+            "ok 2\nok 2\nframe 8 4\n000000 FFFFFF*4 00FF00 000000*2\n\
+            000000 FFFFFF FF0000*3 00FF00 000000*2\n\
+            000000 FFFFFF 0000FF*3 FFFFFF 000000*2\n000000 FFFFFF*5 000000*2\n\
+            done calls 3 refused 0 shown 0 windows 2\n",
+        ),
         (
             "paint F",
             FIRST,

@@ -5,9 +5,11 @@ use outside::{MemSink, MemStore, NamedFile};
 use std::alloc::{AllocError, Global};
 use std::str;
 
-/// The first lines of each script.
-pub const HEADER: &str = "mtgui 1\nscreen 24 16\nbuffers 1\ndesktop 000000\nclass 1 0000FF\nend\n\
-    class 2 00FF00\nend\nclass 3 FF0000\nend\nclass 4 FFFFFF\nend\n";
+/// The first lines of each script. Two of its classes draw.
+pub const HEADER: &str = "mtgui 1\nscreen 24 16\nbuffers 1\ndesktop 000000\nclass 1 0000FF\n\
+    frame 0 0 w-1 h-1 8080FF\nline 1 1 w-2 h-2 C0C0FF\nend\nclass 2 00FF00\nend\n\
+    class 3 FF0000\nfill 1 h-3 w-2 h-2 FF8080\nhline -2 w+2 0 FFC0C0\nvline w-1 0 h 800000\n\
+    end\nclass 4 FFFFFF\nend\n";
 
 /// Room for what a command writes of a script.
 const ROOM: usize = 100_000;

@@ -6,7 +6,6 @@ use Rattle.paint_ops.specs.declared.op.Op.{Op}
 use Rattle.paint_ops.specs.declared.op.Op.TheVariants as op
 use Rattle.paint_ops.specs.Kinds.{Class, Assets}
 use Rattle.paint_ops.specs.Soundness.{IsOperation, IsClass, IsSound}
-use Rattle.script.specs.Scripts.{plain_class}
 
 -- what operations can name is there in the other assets too
 record Grows (a b : Assets) : Type 0 where
@@ -50,17 +49,16 @@ one_more : (assets : Assets) (cs : List Class) (c : Class) → AllByRecursion (I
 one_more assets [] c are is = (is, tt)
 one_more assets (x ∷ cs) c are is = (are.0, one_more assets cs c are.1 is)
 
-pub class_more : (assets : Assets) (colour : ℕ) → IsSound assets → length assets.classes ≤ 63 → IsSound (record assets { classes = assets.classes ++ plain_class colour ∷ [] })
-class_more assets colour sound few =
-    let next : Assets = record assets { classes = assets.classes ++ plain_class colour ∷ [] } in
+pub class_more : (assets : Assets) (class : Class) → IsSound assets → length assets.classes ≤ 63 → IsClass assets class → IsSound (record assets { classes = assets.classes ++ class ∷ [] })
+class_more assets class sound few is =
+    let next : Assets = record assets { classes = assets.classes ++ class ∷ [] } in
     let grows : Grows assets next = record { fonts = omega arith; bitmaps = omega arith; strings = omega arith } in
-    let plain : IsClass next (plain_class colour) = record { few_ops = omega arith; few_reactions = omega arith; ops = tt; reactions = tt } in
     record {
-      few_classes = omega (arith, length-append assets.classes (plain_class colour ∷ []));
+      few_classes = omega (arith, length-append assets.classes (class ∷ []));
       few_fonts = sound.few_fonts;
       few_bitmaps = sound.few_bitmaps;
       few_strings = sound.few_strings;
-      classes = one_more next assets.classes (plain_class colour) (classes_there assets next assets.classes grows sound.classes) plain;
+      classes = one_more next assets.classes class (classes_there assets next assets.classes grows sound.classes) (class_there assets next class grows is);
     }
 
 pub string_more : (assets : Assets) (text : List ℕ) → IsSound assets → length assets.strings ≤ 255 → IsSound (record assets { strings = assets.strings ++ text ∷ [] })

@@ -8,9 +8,13 @@ use Rattle.std.proofs.lemmas.List.{append-nil}
 use Rattle.spelling.specs.Parts.{is_printable}
 use Rattle.spelling.specs.Words.{words_of}
 use Rattle.spelling.specs.Fields.{Values, texts_of, AreIn}
-use Rattle.spelling.specs.Items.{is_comment, AreComments}
+use Rattle.spelling.specs.Items.{is_comment}
 use Rattle.spelling.specs.LineReading.{run}
-use Rattle.spelling.proofs.CallerLemmas.{chosen, named, same_name, line_from_words, values_take, line_values_take, comments_more, items_comment, items_more, all_after_more, on_ok}
+use Rattle.spelling.proofs.CallerLemmas.{chosen, named, same_name, line_from_words, values_take, line_values_take, items_comment, items_more, all_after_more, on_ok}
+use Rattle.paint_ops.specs.Kinds.{Class, Assets}
+use Rattle.class_lines.specs.declared.line.ClassLine.{ClassLine}
+use Rattle.class_lines.specs.Words.{class_line_of, text_of_class_line, ClassLineFits}
+use Rattle.class_lines.proofs.CallerLemmas.{class_line_read}
 use Rattle.calls.specs.declared.line.Line.{Line}
 use Rattle.calls.specs.Words.{line_of}
 use Rattle.calls.proofs.CallerLemmas.{line_read}
@@ -20,9 +24,9 @@ use Rattle.script.specs.declared.fault.Reason.{Reason}
 use Rattle.script.specs.declared.fault.Reason.TheVariants as reason
 use Rattle.script.specs.Fields.{screen_in, desktop_in, class_in, string_in}
 use Rattle.script.specs.Later.{is_one_of, asset_words, is_later_class}
-use Rattle.script.specs.Scripts.{screen_fields, desktop_fields, class_fields, class_text, string_text, with_string, with_line, with_desktop, Item, Title, Screen, Buffers, Desktop, StringOf, ClassOf, CallOf, Before, nothing, after, after_items, Spells, AreItemsOf}
+use Rattle.script.specs.Scripts.{screen_fields, desktop_fields, class_fields, class_text, string_text, with_string, with_line, Item, Title, Screen, Buffers, Desktop, StringOf, ClassOf, CallOf, Before, nothing, after, after_items, Spells, AreItemsOf, class_of, IsClassLine, AreClassLines, plain_class, class_with, may_have}
 use Rattle.script.specs.Faults.{IsFront, StandsAt}
-use Rattle.script.specs.Reading.{Draft, after_value, after_title, after_screen, after_buffers, after_desktop, after_block, after_class, after_string, after_early, after_asset, after_other, after_call, after_body, after_words, after_line, staged, opened, before_at, place_at, place_of, header_reason, block_reason, call_reason, empty_draft}
+use Rattle.script.specs.Reading.{Draft, after_value, after_title, after_screen, after_buffers, after_desktop, after_block, after_class, after_string, after_early, after_asset, after_other, after_call, after_body, after_words, after_line, with_screen, with_colour, ended, after_class_line, opened, before_at, place_at, place_of, header_reason, call_reason, empty_draft}
 use Rattle.script.proofs.StringLaws.{string_taken}
 
 -- ---- where a draft stands
@@ -33,7 +37,7 @@ pub record HasItems (header : ℕ) (d : Draft) (lines : List (List ℕ)) : Type 
   pub spelled : AreItemsOf items lines
   pub before : after_items items ≡ before_at header d
 
--- the lines are items, a class's first line and comments
+-- the lines are items, a class's first line and lines of it
 pub record HasClass (d : Draft) (lines : List (List ℕ)) : Type 0 where
   pub old : Draft
   pub front : List (List ℕ)
@@ -41,9 +45,10 @@ pub record HasClass (d : Draft) (lines : List (List ℕ)) : Type 0 where
   pub none : length old.said.lines ≡ 0
   pub back : ℕ
   pub counted : AreIn class_fields (length old.said.assets.classes, (back, tt))
-  pub is : d ≡ opened old back
+  pub class_lines : List ClassLine
+  pub is : d ≡ record (opened old back) { class = class_of back class_lines }
   pub body : List (List ℕ)
-  pub comments : AreComments body
+  pub are : AreClassLines old.said.assets back class_lines body
   pub parts : lines ≡ front ++ class_text (length old.said.assets.classes) back ∷ body
 
 abbrev pub StandsIn : Stage → Draft → List (List ℕ) → Type 0
@@ -85,9 +90,10 @@ comment_stands stage.Block d lines line has is = record {
   none = has.none;
   back = has.back;
   counted = has.counted;
+  class_lines = has.class_lines;
   is = has.is;
   body = has.body ++ line ∷ [];
-  comments = comments_more has.body line has.comments is;
+  are = items_comment (IsClassLine has.old.said.assets) class_with (plain_class has.back) has.class_lines has.body line has.are is;
   parts = ap (λ (ls : List (List ℕ)). ls ++ line ∷ []) has.parts ∙ append_assoc has.front (class_text (length has.old.said.assets.classes) has.back ∷ has.body) (line ∷ []);
 }
 
@@ -115,9 +121,9 @@ title_stands d e lines line has is =
 screen_stands : (d e : Draft) (lines : List (List ℕ)) (line : List ℕ) → HasItems 1 d lines → after_screen d line ≡ Ok e → Next e lines line
 unfolding after_screen screen_in
 screen_stands d e lines line has is =
-    let v = valued (screen_in (words_of line)) (header_reason line) (λ sides. staged stage.Buffers (record d.said { width = sides.0; height = sides.1.0 })) e is in
+    let v = valued (screen_in (words_of line)) (header_reason line) (λ sides. with_screen d sides.0 sides.1.0) e is in
     let t = line_values_take (codes "screen") screen_fields line v.0 v.1 in
-    subst (λ (x : Draft). Next x lines line) v.2 (push 1 2 d (staged stage.Buffers (record d.said { width = v.0.0; height = v.0.1.0 })) lines (line ∷ []) (Screen v.0.0 v.0.1.0) has ((refl, ap (λ (l : List ℕ). l ∷ []) t.0), t.1) refl)
+    subst (λ (x : Draft). Next x lines line) v.2 (push 1 2 d (with_screen d v.0.0 v.0.1.0) lines (line ∷ []) (Screen v.0.0 v.0.1.0) has ((refl, ap (λ (l : List ℕ). l ∷ []) t.0), t.1) refl)
 
 buffers_stands : (d e : Draft) (lines : List (List ℕ)) (line : List ℕ) → HasItems 2 d lines → after_buffers d line ≡ Ok e → Next e lines line
 unfolding after_buffers
@@ -128,23 +134,58 @@ buffers_stands d e lines line has is =
 desktop_stands : (d e : Draft) (lines : List (List ℕ)) (line : List ℕ) → HasItems 3 d lines → after_desktop d line ≡ Ok e → Next e lines line
 unfolding after_desktop desktop_in
 desktop_stands d e lines line has is =
-    let v = valued (desktop_in (words_of line)) (header_reason line) (λ colour. staged stage.Body (with_desktop d.said colour.0)) e is in
+    let v = valued (desktop_in (words_of line)) (header_reason line) (λ colour. with_colour d colour.0) e is in
     let t = line_values_take (codes "desktop") desktop_fields line v.0 v.1 in
-    subst (λ (x : Draft). Next x lines line) v.2 (push 3 4 d (staged stage.Body (with_desktop d.said v.0.0)) lines (line ∷ []) (Desktop v.0.0) has ((refl, ap (λ (l : List ℕ). l ∷ []) t.0), t.1) refl)
+    subst (λ (x : Draft). Next x lines line) v.2 (push 3 4 d (with_colour d v.0.0) lines (line ∷ []) (Desktop v.0.0) has ((refl, ap (λ (l : List ℕ). l ∷ []) t.0), t.1) refl)
 
 -- the line `end` of a class
-block_stands : (d e : Draft) (lines : List (List ℕ)) (line : List ℕ) → HasClass d lines → after_block d line ≡ Ok e → Next e lines line
-unfolding after_block
-block_stands d e lines line has is =
-    let p = passed (bytes_eq line (codes "end")) (record d { stage = stage.Body }) e (block_reason (words_of line)) is in
+end_stands : (d e : Draft) (lines : List (List ℕ)) (line : List ℕ) → HasClass d lines → line ≡ codes "end" → ended d ≡ e → Next e lines line
+end_stands d e lines line has end is =
     let first : List ℕ = class_text (length has.old.said.assets.classes) has.back in
-    let next : Draft = record (opened has.old has.back) { stage = stage.Body } in
-    let same : next ≡ e = ap (λ (x : Draft). record x { stage = stage.Body }) (sym has.is) ∙ p.1 in
+    let last : Draft = record (opened has.old has.back) { class = class_of has.back has.class_lines } in
+    let same : ended last ≡ e = ap ended (sym has.is) ∙ is in
     let block : List (List ℕ) = first ∷ has.body ++ codes "end" ∷ [] in
     let all : has.front ++ block ≡ lines ++ line ∷ [] =
-    sym (append_assoc has.front (first ∷ has.body) (codes "end" ∷ [])) ∙ ap (λ (ls : List (List ℕ)). ls ++ codes "end" ∷ []) (sym has.parts) ∙ ap (λ (l : List ℕ). lines ++ l ∷ []) (sym (named line (codes "end") p.0)) in
-    subst (λ (x : Draft). Next x lines line) same (subst (HasItems 4 next) all (push 4 4 has.old next has.front block (ClassOf has.back) has.has
-    (record { early = record { header = refl; none = has.none }; counted = has.counted; body = has.body; comments = has.comments; spelled = refl }) refl))
+    sym (append_assoc has.front (first ∷ has.body) (codes "end" ∷ [])) ∙ ap (λ (ls : List (List ℕ)). ls ++ codes "end" ∷ []) (sym has.parts) ∙ ap (λ (l : List ℕ). lines ++ l ∷ []) (sym end) in
+    subst (λ (x : Draft). Next x lines line) same (subst (HasItems 4 (ended last)) all (push 4 4 has.old (ended last) has.front block (ClassOf has.back has.class_lines) has.has
+    (record { early = record { header = refl; none = has.none }; counted = has.counted; body = has.body; are = has.are; spelled = refl }) refl))
+
+-- one line more of a class
+line_more : (d : Draft) (lines : List (List ℕ)) (line : List ℕ) (l : ClassLine) → HasClass d lines → may_have d.said.assets d.class l ≡ true → line ≡ text_of_class_line l → ClassLineFits l → HasClass (record d { class = class_with d.class l }) (lines ++ line ∷ [])
+line_more d lines line l has room spelled fits =
+    let assets : Assets = has.old.said.assets in
+    let class : Class = class_of has.back has.class_lines in
+    let there : may_have assets class l ≡ true = subst (λ (x : Draft). may_have x.said.assets x.class l ≡ true) has.is room in
+    record {
+      old = has.old;
+      front = has.front;
+      has = has.has;
+      none = has.none;
+      back = has.back;
+      counted = has.counted;
+      class_lines = has.class_lines ++ l ∷ [];
+      is = ap (λ (x : Draft). record x { class = class_with x.class l }) has.is ∙ ap (λ (c : Class). record (opened has.old has.back) { class = c }) (sym (all_after_more class_with (plain_class has.back) has.class_lines l));
+      body = has.body ++ line ∷ [];
+      are = items_more (IsClassLine assets) class_with (plain_class has.back) has.class_lines l has.body (line ∷ []) has.are (record { room = there; fits = fits; spelled = ap (λ (x : List ℕ). x ∷ []) spelled });
+      parts = ap (λ (ls : List (List ℕ)). ls ++ line ∷ []) has.parts ∙ append_assoc has.front (class_text (length has.old.said.assets.classes) has.back ∷ has.body) (line ∷ []);
+    }
+
+class_line_stands : (d e : Draft) (lines : List (List ℕ)) (line : List ℕ) (o : Option ClassLine) → d.stage ≡ stage.Block → HasClass d lines → class_line_of (words_of line) ≡ o → after_class_line d o ≡ Ok e → Next e lines line
+class_line_stands d e lines line None at has read is = absurd cc
+class_line_stands d e lines line (Some l) at has read is =
+    let next : Draft = record d { class = class_with d.class l } in
+    let p = passed (may_have d.said.assets d.class l) next e reason.Block is in
+    let t = class_line_read line l read in
+    subst (λ (x : Draft). Next x lines line) p.1 (subst (λ (s : Stage). StandsIn s next (lines ++ line ∷ [])) (sym at) (line_more d lines line l has p.0 t.0 t.1))
+
+-- a line in a class's block
+block_stands : (d e : Draft) (lines : List (List ℕ)) (line : List ℕ) → d.stage ≡ stage.Block → HasClass d lines → after_block d line ≡ Ok e → Next e lines line
+unfolding after_block
+block_stands d e lines line at has is =
+    elim (chosen (bytes_eq line (codes "end")) (Ok (ended d)) (after_class_line d (class_line_of (words_of line))) (Ok e) is) [
+      | inl end ↦ end_stands d e lines line has (named line (codes "end") end.0) (cc (end.1))
+      | inr other ↦ class_line_stands d e lines line (class_line_of (words_of line)) at has refl other.1
+    ]
 
 -- a line after which the draft stands between items again
 stands_in_body : (d e : Draft) (said : List (List ℕ)) → d.stage ≡ stage.Body → HasItems 4 e said → e.stage ≡ d.stage → Stands e said
@@ -176,9 +217,10 @@ class_stands d e lines line words (Some vs) has none spelled read is =
       none = none;
       back = vs.1.0;
       counted = subst (λ (n : ℕ). AreIn class_fields (n, (vs.1.0, tt))) number t.1;
+      class_lines = [];
       is = refl;
       body = [];
-      comments = tt;
+      are = tt;
       parts = ap (λ (l : List ℕ). lines ++ l ∷ []) (text ∙ ap (λ (n : ℕ). class_text n vs.1.0) number);
     })
 
@@ -251,7 +293,7 @@ words_stand stage.Screen d e lines line at has is = screen_stands d e lines line
 words_stand stage.Buffers d e lines line at has is = buffers_stands d e lines line has is
 words_stand stage.Desktop d e lines line at has is = desktop_stands d e lines line has is
 words_stand stage.Body d e lines line at has is = body_stands d e lines line at has is
-words_stand stage.Block d e lines line at has is = block_stands d e lines line has is
+words_stand stage.Block d e lines line at has is = block_stands d e lines line at has is
 
 -- ---- all lines
 
@@ -309,8 +351,9 @@ place_stands stage.Block d lines has = record {
   early = record { header = refl; none = has.none };
   back = has.back;
   counted = has.counted;
+  class_lines = has.class_lines;
   body = has.body;
-  comments = has.comments;
+  are = has.are;
   spelled = has.parts;
 }
 

@@ -52,7 +52,7 @@ small_is = (
           calls_left,
           refl,
           tt,
-          record { early = record { header = refl; none = refl }; counted = ((omega arith, omega arith), (omega arith, tt)); body = codes "" ∷ []; comments = (refl, tt); spelled = refl },
+          record { early = record { header = refl; none = refl }; counted = ((omega arith, omega arith), (omega arith, tt)); body = codes "" ∷ []; are = (refl, tt); spelled = refl },
           (
             [],
             codes "1 create 1 0 0 0 1 1" ∷ [],

@@ -1,14 +1,18 @@
 -- The first lines of a script are read: a draft takes them, and stands at their place.
-use Rattle.std.proofs.Common.{◌≡◌, ℕ, ◌+◌, ◌<◌, ◌≤◌, true, false, cond, eqb, ltb, List, [], ◌∷◌, ◌++◌, length, get_or, Option, Some, None, Result, Ok, refl, sym, ap, subst, ◌∙◌, arith, lit<}
-use Rattle.std.specs.Prelude.{codes}
+use Rattle.std.proofs.Common.{◌≡◌, ℕ, ◌+◌, ◌<◌, ◌≤◌, true, false, cond, eqb, ltb, List, [], ◌∷◌, ◌++◌, length, get_or, Option, Some, None, Result, Ok, refl, sym, ap, subst, ◌∙◌, arith, lit<, inl, inr}
+use Rattle.std.specs.Prelude.{bytes_eq, codes}
 use Rattle.std.specs.List.{AllByRecursion}
+use Rattle.std.proofs.lemmas.Bool.{cases_Bool}
 use Rattle.std.proofs.lemmas.Bool.Decides.{nat_tests}
 use Rattle.spelling.specs.Parts.{is_printable}
 use Rattle.spelling.specs.Words.{words_of}
 use Rattle.spelling.specs.Fields.{texts_of, AreIn, text_with}
 use Rattle.spelling.specs.Items.{is_comment, AreComments, AreItems, all_after}
 use Rattle.spelling.specs.LineReading.{on, run}
-use Rattle.spelling.proofs.CallerLemmas.{values_again, line_values_again, words_with, no_natural, colour_no_dash, run_on}
+use Rattle.spelling.proofs.CallerLemmas.{named, values_again, line_values_again, words_with, no_natural, colour_no_dash, run_on}
+use Rattle.class_lines.specs.declared.line.ClassLine.{ClassLine}
+use Rattle.class_lines.specs.Words.{text_of_class_line, ClassLineFits}
+use Rattle.class_lines.proofs.CallerLemmas.{class_line_spelled, no_comment, no_end}
 use Rattle.calls.specs.declared.line.Line.{Line}
 use Rattle.calls.specs.Words.{line_of, text_of_line, LineFits}
 use Rattle.calls.proofs.CallerLemmas.{line_spelled}
@@ -17,11 +21,11 @@ use Rattle.script.specs.declared.draft.Stage.TheVariants as stage
 use Rattle.script.specs.declared.fault.Reason.{Reason}
 use Rattle.script.specs.Fields.{screen_in, desktop_in, class_in}
 use Rattle.script.specs.Later.{is_one_of, asset_words, is_later_class}
-use Rattle.script.specs.Scripts.{screen_fields, desktop_fields, class_fields, class_text, string_text, with_string, with_line, with_desktop, Listing, Item, Title, Screen, Buffers, Desktop, StringOf, ClassOf, CallOf, Before, nothing, after, Spells}
+use Rattle.script.specs.Scripts.{screen_fields, desktop_fields, class_fields, class_text, string_text, with_string, with_line, Listing, Item, Title, Screen, Buffers, Desktop, StringOf, ClassOf, CallOf, Before, nothing, after, Spells, class_of, IsClassLine, AreClassLines, class_with, may_have}
 use Rattle.paint_ops.specs.Texts.{IsText}
 use Rattle.std.specs.Fmt.{decimal}
 use Rattle.script.specs.Faults.{Place, Between, InClass, AreOpen, IsFront}
-use Rattle.script.specs.Reading.{Draft, empty_draft, after_title, after_screen, after_buffers, after_desktop, after_block, after_class, after_string, after_asset, after_other, after_call, after_body, after_words, after_line, staged, opened, before_at, place_at, place_of}
+use Rattle.script.specs.Reading.{Draft, empty_draft, after_title, after_screen, after_buffers, after_desktop, after_block, after_class, after_string, after_asset, after_other, after_call, after_body, after_words, after_line, with_screen, with_colour, ended, opened, before_at, place_at, place_of}
 use Rattle.script.proofs.StringLaws.{string_words, string_again}
 use Rattle.script.proofs.ItemLaws.{opens}
 
@@ -65,15 +69,15 @@ buffers_taken : (d : Draft) → after_buffers d (codes "buffers 1") ≡ Ok (reco
 unfolding after_buffers
 buffers_taken d = refl
 
-end_taken : (d : Draft) → after_block d (codes "end") ≡ Ok (record d { stage = stage.Body })
+end_taken : (d : Draft) → after_block d (codes "end") ≡ Ok (ended d)
 unfolding after_block
 end_taken d = refl
 
-screen_taken : (d : Draft) (w h : ℕ) → AreIn screen_fields (w, (h, tt)) → after_screen d (text_with (codes "screen") screen_fields (w, (h, tt))) ≡ Ok (staged stage.Buffers (record d.said { width = w; height = h }))
+screen_taken : (d : Draft) (w h : ℕ) → AreIn screen_fields (w, (h, tt)) → after_screen d (text_with (codes "screen") screen_fields (w, (h, tt))) ≡ Ok (with_screen d w h)
 unfolding after_screen screen_in
 screen_taken d w h are = rw (line_values_again (codes "screen") screen_fields (w, (h, tt)) refl refl are) refl
 
-desktop_taken : (d : Draft) (c : ℕ) → AreIn desktop_fields (c, tt) → after_desktop d (text_with (codes "desktop") desktop_fields (c, tt)) ≡ Ok (staged stage.Body (with_desktop d.said c))
+desktop_taken : (d : Draft) (c : ℕ) → AreIn desktop_fields (c, tt) → after_desktop d (text_with (codes "desktop") desktop_fields (c, tt)) ≡ Ok (with_colour d c)
 unfolding after_desktop desktop_in
 desktop_taken d c are = rw (line_values_again (codes "desktop") desktop_fields (c, tt) refl refl are) refl
 
@@ -178,38 +182,74 @@ one_line s d e item b block text spells is printable at taken now =
 body_place : (d : Draft) (n : ℕ) → d.stage ≡ stage.Body → n ≡ 4 → place_of d ≡ Between (before_at n d)
 body_place d n body header = ap (λ (s : Stage). place_at s d) body ∙ ap (λ (k : ℕ). Between (before_at k d)) (sym header)
 
--- the lines of a class, to its `end`
-class_goes : (d : Draft) (back : ℕ) (body : List (List ℕ)) (block : List (List ℕ)) → d.stage ≡ stage.Body → AreIn class_fields (length d.said.assets.classes, (back, tt)) → length d.said.lines ≡ 0 → AreComments body → is_comment (class_text (length d.said.assets.classes) back) ≡ false
-    → block ≡ class_text (length d.said.assets.classes) back ∷ body ++ codes "end" ∷ [] → ArePrintable block → Reads d block (record (opened d back) { stage = stage.Body })
-class_goes d back body block at are early comments shown is printable =
+-- ---- a class's body
+
+not_end : (line : List ℕ) → (line ≡ codes "end" → ⊥) → bytes_eq line (codes "end") ≡ false
+not_end line none =
+    elim (cases_Bool (bytes_eq line (codes "end"))) [
+      | inl same ↦ absurd (none (named line (codes "end") same))
+      | inr other ↦ other
+    ]
+
+class_line_taken : (d : Draft) (l : ClassLine) → ClassLineFits l → may_have d.said.assets d.class l ≡ true → after_block d (text_of_class_line l) ≡ Ok (record d { class = class_with d.class l })
+unfolding after_block
+class_line_taken d l fits room =
+    rw (not_end (text_of_class_line l) (no_end l fits), class_line_spelled (text_of_class_line l) l refl fits, room) refl
+
+body_goes : (lines : List ClassLine) (d : Draft) (body : List (List ℕ)) → d.stage ≡ stage.Block → AreItems (IsClassLine d.said.assets) class_with d.class lines body → ArePrintable body → Reads d body (record d { class = all_after class_with d.class lines })
+body_goes [] d body at are printable = comments_read d body printable are
+body_goes (l ∷ ls) d body at are printable =
+    let text : List ℕ = text_of_class_line l in
+    let e : Draft = record d { class = class_with d.class l } in
+    let all = subst ArePrintable are.3 printable in
+    let comments = printable_parts are.0 (are.1 ++ are.2) all in
+    let parts = printable_parts are.1 are.2 comments.1 in
+    let shown : is_printable text ≡ true = (subst ArePrintable are.5.spelled parts.0).0 in
+    let one : Reads d are.1 e = ap (run after_line d) are.5.spelled ∙ then_on d e text [] (other_line stage.Block d e text shown (no_comment l are.5.fits) at (class_line_taken d l are.5.fits are.5.room)) in
+    ap (run after_line d) are.3 ∙ run_on after_line d d are.0 (are.1 ++ are.2) (comments_read d are.0 comments.0 are.4) ∙ run_on after_line d e are.1 are.2 one ∙ body_goes ls e are.2 at are.6 parts.1
+
+-- a class's first line after this listing, and lines of it
+abbrev OpensAfter : Draft → ℕ → List ClassLine → List (List ℕ) → Listing → Type 0
+OpensAfter d back lines body l =
+    let first : List ℕ = class_text (length l.assets.classes) back in
+    AreIn class_fields (length l.assets.classes, (back, tt)) → length l.lines ≡ 0 → AreClassLines l.assets back lines body → is_comment first ≡ false → ArePrintable (first ∷ body) → Reads d (first ∷ body) (record (opened d back) { class = class_of back lines })
+
+opened_goes : (d : Draft) (back : ℕ) (lines : List ClassLine) (body : List (List ℕ)) → d.stage ≡ stage.Body → OpensAfter d back lines body d.said
+opened_goes d back lines body at counted early are shown printable =
     let first : List ℕ = class_text (length d.said.assets.classes) back in
-    let all = subst ArePrintable is printable in
-    let parts = printable_parts body (codes "end" ∷ []) all.1 in
-    ap (run after_line d) is ∙ then_on d (opened d back) first (body ++ codes "end" ∷ []) (other_line stage.Body d (opened d back) first all.0 shown at (class_taken d back are early))
-    ∙ run_on after_line (opened d back) (opened d back) body (codes "end" ∷ []) (comments_read (opened d back) body parts.0 comments)
-    ∙ then_on (opened d back) (record (opened d back) { stage = stage.Body }) (codes "end") [] (other_line stage.Block (opened d back) (record (opened d back) { stage = stage.Body }) (codes "end") parts.1.0 refl refl (end_taken (opened d back)))
+    then_on d (opened d back) first body (other_line stage.Body d (opened d back) first printable.0 shown at (class_taken d back counted early)) ∙ body_goes lines (opened d back) body refl are printable.1
+
+-- the lines of a class, to its `end`
+class_goes : (d : Draft) (back : ℕ) (lines : List ClassLine) (body block : List (List ℕ)) → d.stage ≡ stage.Body → AreIn class_fields (length d.said.assets.classes, (back, tt)) → length d.said.lines ≡ 0 → AreClassLines d.said.assets back lines body → is_comment (class_text (length d.said.assets.classes) back) ≡ false
+    → block ≡ class_text (length d.said.assets.classes) back ∷ body ++ codes "end" ∷ [] → ArePrintable block → Reads d block (ended (record (opened d back) { class = class_of back lines }))
+class_goes d back lines body block at counted early are shown is printable =
+    let first : List ℕ = class_text (length d.said.assets.classes) back in
+    let last : Draft = record (opened d back) { class = class_of back lines } in
+    let parts = printable_parts (first ∷ body) (codes "end" ∷ []) (subst ArePrintable is printable) in
+    ap (run after_line d) is ∙ run_on after_line d last (first ∷ body) (codes "end" ∷ []) (opened_goes d back lines body at counted early are shown parts.0)
+    ∙ then_on last (ended last) (codes "end") [] (other_line stage.Block last (ended last) (codes "end") parts.1.0 refl refl (end_taken last))
 
 -- an item that stands after so many lines of the header
 item_goes : (item : Item) (d : Draft) (n : ℕ) (block : List (List ℕ)) → d.stage ≡ stage_of n → Spells (before_at n d) item block → ArePrintable block → Goes d block (after (before_at n d) item)
 item_goes Title d n block at spells printable =
     one_line stage.Title d (record d { stage = stage.Screen }) Title (before_at n d) block (codes "mtgui 1") spells spells.1 printable (at ∙ ap stage_of spells.0) (title_taken d) refl
 item_goes (Screen w h) d n block at spells printable =
-    one_line stage.Screen d (staged stage.Buffers (record d.said { width = w; height = h })) (Screen w h) (before_at n d) block (text_with (codes "screen") screen_fields (w, (h, tt))) spells spells.0.1 printable (at ∙ ap stage_of spells.0.0) (screen_taken d w h spells.1) refl
+    one_line stage.Screen d (with_screen d w h) (Screen w h) (before_at n d) block (text_with (codes "screen") screen_fields (w, (h, tt))) spells spells.0.1 printable (at ∙ ap stage_of spells.0.0) (screen_taken d w h spells.1) refl
 item_goes Buffers d n block at spells printable =
     one_line stage.Buffers d (record d { stage = stage.Desktop }) Buffers (before_at n d) block (codes "buffers 1") spells spells.1 printable (at ∙ ap stage_of spells.0) (buffers_taken d) refl
 item_goes (Desktop c) d n block at spells printable =
-    one_line stage.Desktop d (staged stage.Body (with_desktop d.said c)) (Desktop c) (before_at n d) block (text_with (codes "desktop") desktop_fields (c, tt)) spells spells.0.1 printable (at ∙ ap stage_of spells.0.0) (desktop_taken d c spells.1) refl
+    one_line stage.Desktop d (with_colour d c) (Desktop c) (before_at n d) block (text_with (codes "desktop") desktop_fields (c, tt)) spells spells.0.1 printable (at ∙ ap stage_of spells.0.0) (desktop_taken d c spells.1) refl
 item_goes (StringOf text) d n block at spells printable =
     let e : Draft = record d { said = with_string d.said text } in
     let body : d.stage ≡ stage.Body = at ∙ ap stage_of spells.early.header in
     one_line stage.Body d e (StringOf text) (before_at n d) block (string_text (length d.said.assets.strings) text) spells spells.spelled printable body (text_taken d text spells.counted spells.is spells.early.none) (body_place e n body spells.early.header)
-item_goes (ClassOf back) d n block at spells printable =
-    let o = opens (before_at n d) (ClassOf back) block spells in
+item_goes (ClassOf back lines) d n block at spells printable =
+    let o = opens (before_at n d) (ClassOf back lines) block spells in
     let same : o.line ∷ o.more ≡ class_text (length d.said.assets.classes) back ∷ spells.body ++ codes "end" ∷ [] = sym o.is ∙ spells.spelled in
     let line : o.line ≡ class_text (length d.said.assets.classes) back = cc in
     let body : d.stage ≡ stage.Body = at ∙ ap stage_of spells.early.header in
-    let e : Draft = record (opened d back) { stage = stage.Body } in
-    (e, class_goes d back spells.body block body spells.counted spells.early.none spells.comments (subst (λ (l : List ℕ). is_comment l ≡ false) line o.shown) spells.spelled printable, body_place e n refl spells.early.header)
+    let e : Draft = ended (record (opened d back) { class = class_of back lines }) in
+    (e, class_goes d back lines spells.body block body spells.counted spells.early.none spells.are (subst (λ (l : List ℕ). is_comment l ≡ false) line o.shown) spells.spelled printable, body_place e n refl spells.early.header)
 item_goes (CallOf l) d n block at spells printable =
     let e : Draft = record d { said = with_line d.said l } in
     let body : d.stage ≡ stage.Body = at ∙ ap stage_of spells.header in
@@ -239,28 +279,21 @@ whole_read lines items are printable = items_go items empty_draft nothing lines 
 open_read : (lines : List (List ℕ)) → AreOpen lines → ArePrintable lines → IsReadAs lines InClass
 open_read lines open_ printable =
     let b : Before = open_.before in
-    let first : List ℕ = class_text (length b.said.assets.classes) open_.back in
-    let all = subst ArePrintable open_.spelled printable in
-    let parts = printable_parts open_.front (first ∷ open_.body) all in
+    let back : ℕ = open_.back in
+    let first : List ℕ = class_text (length b.said.assets.classes) back in
+    let parts = printable_parts open_.front (first ∷ open_.body) (subst ArePrintable open_.spelled printable) in
     let r = whole_read open_.front open_.whole.items open_.whole.spelled parts.0 in
     let d : Draft = r.0 in
     let place : place_of d ≡ Between b = r.2 ∙ ap Between open_.whole.before in
     let at = at_place d.stage d b place in
     let said : b.said ≡ d.said = ap (λ (x : Before). x.said) at.0 in
-    let text : first ≡ class_text (length d.said.assets.classes) open_.back = ap (λ (l : Listing). class_text (length l.assets.classes) open_.back) said in
     let block : List (List ℕ) = first ∷ open_.body ++ codes "end" ∷ [] in
-    let o = opens b (ClassOf open_.back) block (record { early = open_.early; counted = open_.counted; body = open_.body; comments = open_.comments; spelled = refl }) in
+    let o = opens b (ClassOf back open_.class_lines) block (record { early = open_.early; counted = open_.counted; body = open_.body; are = open_.are; spelled = refl }) in
     let same : o.line ∷ o.more ≡ block = sym o.is in
     let line : o.line ≡ first = cc in
-    let shown : is_comment (class_text (length d.said.assets.classes) open_.back) ≡ false = subst (λ (l : List ℕ). is_comment l ≡ false) (line ∙ text) o.shown in
-    let printable_first : is_printable (class_text (length d.said.assets.classes) open_.back) ≡ true = subst (λ (l : List ℕ). is_printable l ≡ true) text parts.1.0 in
-    let taken = class_taken d open_.back (subst (λ (l : Listing). AreIn class_fields (length l.assets.classes, (open_.back, tt))) said open_.counted) (ap (λ (l : Listing). length l.lines) (sym said) ∙ open_.early.none) in (
-      opened d open_.back,
-      ap (run after_line empty_draft) open_.spelled ∙ run_on after_line empty_draft d open_.front (first ∷ open_.body) r.1 ∙ ap (λ (l : List ℕ). run after_line d (l ∷ open_.body)) text
-          ∙ then_on d (opened d open_.back) (class_text (length d.said.assets.classes) open_.back) open_.body (other_line stage.Body d (opened d open_.back) (class_text (length d.said.assets.classes) open_.back) printable_first shown (at.1 ∙ ap stage_of open_.early.header) taken)
-          ∙ comments_read (opened d open_.back) open_.body parts.1.1 open_.comments,
-      refl,
-    )
+    let shown : is_comment first ≡ false = subst (λ (l : List ℕ). is_comment l ≡ false) line o.shown in
+    let goes : OpensAfter d back open_.class_lines open_.body b.said = subst (OpensAfter d back open_.class_lines open_.body) (sym said) (opened_goes d back open_.class_lines open_.body (at.1 ∙ ap stage_of open_.early.header)) in
+    (record (opened d back) { class = class_of back open_.class_lines }, ap (run after_line empty_draft) open_.spelled ∙ run_on after_line empty_draft d open_.front (first ∷ open_.body) r.1 ∙ goes open_.counted open_.early.none open_.are shown parts.1, refl)
 
 pub front_reads : (lines : List (List ℕ)) (place : Place) → IsFront lines place → IsReadAs lines place
 front_reads lines (Between b) front =

@@ -1,5 +1,5 @@
 -- Items are apart: each begins with a line that is no comment, by which it is known, and ends where its lines say.
-use Rattle.std.proofs.Common.{◌≡◌, ℕ, ◌<◌, ◌≤◌, true, false, List, [], ◌∷◌, ◌++◌, length, get_or, None, refl, sym, ap, ◌∙◌, arith, lit<, append_assoc}
+use Rattle.std.proofs.Common.{◌≡◌, ℕ, ◌<◌, ◌≤◌, true, false, List, [], ◌∷◌, ◌++◌, length, get_or, None, refl, sym, ap, ◌∙◌, arith, lit<, append_assoc, subst}
 use Rattle.std.specs.Prelude.{bytes_eq, codes, is_some, if◌then◌else◌}
 use Rattle.std.specs.Fmt.{decimal}
 use Rattle.std.proofs.lemmas.Bool.Decides.{nat_tests}
@@ -9,15 +9,18 @@ use Rattle.std.proofs.lemmas.Str.Parse.{digit_at}
 use Rattle.spelling.specs.Parts.{lines_of}
 use Rattle.spelling.specs.Words.{words_of, text_of_words, natural_in}
 use Rattle.spelling.specs.Fields.{Field, Values, texts_of, AreIn, is_word, are_fields, text_with}
-use Rattle.spelling.specs.Items.{is_comment, AreComments}
+use Rattle.spelling.specs.Items.{is_comment}
 use Rattle.spelling.proofs.CallerLemmas.{no_natural_in, natural_in_again, words_with, text_same, Without, same_block, AreApart, one_list}
+use Rattle.paint_ops.specs.Kinds.{Assets}
+use Rattle.class_lines.specs.declared.line.ClassLine.{ClassLine}
 use Rattle.calls.specs.declared.line.Act.TheVariants as act
 use Rattle.calls.specs.declared.line.Line.{Line}
 use Rattle.calls.specs.declared.line.Line.TheVariants.{Task}
 use Rattle.calls.specs.Words.{text_of_line, words_of_call, LineFits}
 use Rattle.calls.proofs.CallerLemmas.{line_spelled, line_words_whole}
-use Rattle.script.specs.Scripts.{screen_fields, desktop_fields, class_fields, class_text, string_text, Item, Title, Screen, Buffers, Desktop, StringOf, ClassOf, CallOf, Before, nothing, after, IsStringBlock, IsClassBlock, Spells, AreItemsOf, Script, script_for, listing_of, IsScript}
+use Rattle.script.specs.Scripts.{screen_fields, desktop_fields, class_fields, class_text, string_text, Item, Title, Screen, Buffers, Desktop, StringOf, ClassOf, CallOf, Before, nothing, after, IsStringBlock, AreClassLines, IsClassBlock, Spells, AreItemsOf, Script, script_for, listing_of, IsScript}
 use Rattle.script.proofs.StringLaws.{string_words, string_same}
+use Rattle.script.proofs.BodyLaws.{one_line, one_body, without_end}
 
 -- ---- one text has one meaning
 
@@ -45,7 +48,7 @@ tag Title = 0
 tag (Screen w h) = 1
 tag Buffers = 2
 tag (Desktop colour) = 3
-tag (ClassOf back) = 4
+tag (ClassOf back lines) = 4
 tag (CallOf l) = 5
 tag (StringOf text) = 6
 
@@ -90,39 +93,30 @@ opens b (Screen w h) block is = opens_with (Screen w h) block [] (codes "screen"
 opens b Buffers block is = record { line = codes "buffers 1"; more = []; is = is.1; known = rw (name_tag (codes "buffers") (lit< tt)) refl; shown = refl }
 opens b (Desktop colour) block is = opens_with (Desktop colour) block [] (codes "desktop") desktop_fields (colour, tt) refl refl is.1 (lit< tt) (lit< tt) (rw (name_tag (codes "desktop") (lit< tt)) refl) is.0.1
 opens b (StringOf text) block is = opens_string b text block is
-opens b (ClassOf back) block is = opens_with (ClassOf back) block (is.body ++ codes "end" ∷ []) (codes "class") class_fields (length b.said.assets.classes, (back, tt)) refl refl is.counted (lit< tt) (lit< tt) (rw (name_tag (codes "class") (lit< tt)) refl) is.spelled
+opens b (ClassOf back lines) block is = opens_with (ClassOf back lines) block (is.body ++ codes "end" ∷ []) (codes "class") class_fields (length b.said.assets.classes, (back, tt)) refl refl is.counted (lit< tt) (lit< tt) (rw (name_tag (codes "class") (lit< tt)) refl) is.spelled
 opens b (CallOf l) block is = opens_call l block is.fits is.spelled
 
 -- ---- blocks
 
--- blocks of one line each
-one_line : (xs bs ys cs : List (List ℕ)) (t u : List ℕ) → xs ≡ t ∷ [] → bs ≡ u ∷ [] → xs ++ ys ≡ bs ++ cs → (t ≡ u) × (ys ≡ cs)
-one_line xs bs ys cs t u is also e =
-    let same : t ∷ ys ≡ u ∷ cs = sym (ap (λ (ls : List (List ℕ)). ls ++ ys) is) ∙ e ∙ ap (λ (ls : List (List ℕ)). ls ++ cs) also in
-    (cc, cc)
-
 -- blocks to the line `end`
-to_end : (xs bs ys cs body other : List (List ℕ)) (t u : List ℕ) → Without (codes "end") body → Without (codes "end") other → xs ≡ t ∷ body ++ codes "end" ∷ [] → bs ≡ u ∷ other ++ codes "end" ∷ [] → xs ++ ys ≡ bs ++ cs → (t ≡ u) × (ys ≡ cs)
+to_end : (xs bs ys cs body other : List (List ℕ)) (t u : List ℕ) → Without (codes "end") body → Without (codes "end") other → xs ≡ t ∷ body ++ codes "end" ∷ [] → bs ≡ u ∷ other ++ codes "end" ∷ [] → xs ++ ys ≡ bs ++ cs → (t ≡ u) × (body ≡ other) × (ys ≡ cs)
 to_end xs bs ys cs body other t u clear also is are e =
     let same : t ∷ (body ++ codes "end" ∷ []) ++ ys ≡ u ∷ (other ++ codes "end" ∷ []) ++ cs = sym (ap (λ (ls : List (List ℕ)). ls ++ ys) is) ∙ e ∙ ap (λ (ls : List (List ℕ)). ls ++ cs) are in
     let first : t ≡ u = cc in
     let rest : (body ++ codes "end" ∷ []) ++ ys ≡ (other ++ codes "end" ∷ []) ++ cs = cc in
-    (first, (same_block (codes "end") body other ys cs clear also (sym (append_assoc body (codes "end" ∷ []) ys) ∙ rest ∙ append_assoc other (codes "end" ∷ []) cs)).1)
+    let blocks = same_block (codes "end") body other ys cs clear also (sym (append_assoc body (codes "end" ∷ []) ys) ∙ rest ∙ append_assoc other (codes "end" ∷ []) cs) in
+    (first, blocks.0, blocks.1)
 
--- no comment is the line `end`
-no_end : (line : List ℕ) → is_comment line ≡ true → line ≡ codes "end" → ⊥
-no_end line is e = let other : is_comment line ≡ false = ap is_comment e in absurd (cc (sym is ∙ other))
-
-pub comments_no_end : (body : List (List ℕ)) → AreComments body → Without (codes "end") body
-comments_no_end [] are = tt
-comments_no_end (line ∷ body) are = (no_end line are.0, comments_no_end body are.1)
-
-classes_apart : (b : Before) (back other : ℕ) (xs bs ys cs : List (List ℕ)) → IsClassBlock b back xs → IsClassBlock b other bs → xs ++ ys ≡ bs ++ cs → (ClassOf back ≡ ClassOf other) × (ys ≡ cs)
-classes_apart b back other xs bs ys cs is also e =
+classes_apart : (b : Before) (back other : ℕ) (ls ms : List ClassLine) (xs bs ys cs : List (List ℕ)) → IsClassBlock b back ls xs → IsClassBlock b other ms bs → xs ++ ys ≡ bs ++ cs → (ClassOf back ls ≡ ClassOf other ms) × (ys ≡ cs)
+classes_apart b back other ls ms xs bs ys cs is also e =
     let number : ℕ = length b.said.assets.classes in
-    let parts = to_end xs bs ys cs is.body also.body (class_text number back) (class_text number other) (comments_no_end is.body is.comments) (comments_no_end also.body also.comments) is.spelled also.spelled e in
+    let assets : Assets = b.said.assets in
+    let parts = to_end xs bs ys cs is.body also.body (class_text number back) (class_text number other) (without_end assets back ls is.body is.are) (without_end assets other ms also.body also.are) is.spelled also.spelled e in
     let head = text_same (codes "class") class_fields (number, (back, tt)) (number, (other, tt)) refl refl is.counted also.counted parts.0 in
-    (ap (λ (vs : Values class_fields). ClassOf vs.1.0) head, parts.1)
+    let colour : back ≡ other = ap (λ (vs : Values class_fields). vs.1.0) head in
+    let there : AreClassLines assets back ms is.body = subst (AreClassLines assets back ms) (sym parts.1) (subst (λ (c : ℕ). AreClassLines assets c ms also.body) (sym colour) also.are) in
+    let lines : ls ≡ ms = one_body assets back ls ms is.body is.are there in
+    (ap (λ (c : ℕ). ClassOf c ls) colour ∙ ap (ClassOf other) lines, parts.2)
 
 screens_apart : (w h w' h' : ℕ) → AreIn screen_fields (w, (h, tt)) → AreIn screen_fields (w', (h', tt)) → text_with (codes "screen") screen_fields (w, (h, tt)) ≡ text_with (codes "screen") screen_fields (w', (h', tt)) → Screen w h ≡ Screen w' h'
 screens_apart w h w' h' is also e = ap (λ (vs : Values screen_fields). Screen vs.0 vs.1.0) (text_same (codes "screen") screen_fields (w, (h, tt)) (w', (h', tt)) refl refl is also e)
@@ -144,7 +138,7 @@ apart_by b (Desktop c) (Desktop d) xs bs ys cs kind is also e =
 apart_by b (StringOf text) (StringOf other) xs bs ys cs kind is also e =
     let parts = one_line xs bs ys cs _ _ is.spelled also.spelled e in
     (ap StringOf (string_same (length b.said.assets.strings) text other is.counted is.is also.is parts.0), parts.1)
-apart_by b (ClassOf back) (ClassOf other) xs bs ys cs kind is also e = classes_apart b back other xs bs ys cs is also e
+apart_by b (ClassOf back ls) (ClassOf other ms) xs bs ys cs kind is also e = classes_apart b back other ls ms xs bs ys cs is also e
 apart_by b (CallOf l) (CallOf m) xs bs ys cs kind is also e =
     let parts = one_line xs bs ys cs _ _ is.spelled also.spelled e in
     (ap CallOf (line_same l m is.fits also.fits parts.0), parts.1)

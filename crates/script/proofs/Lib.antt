@@ -1,6 +1,7 @@
 pub mod CallerLemmas
 mod StringLaws
 mod AssetLemmas
+mod BodyLaws
 mod ItemLaws
 mod DraftLaws
 mod FrontLaws

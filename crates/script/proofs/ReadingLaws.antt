@@ -24,10 +24,11 @@ use Rattle.script.specs.declared.fault.Reason.TheVariants as reason
 use Rattle.script.specs.declared.fault.ScriptFault.{ScriptFault}
 use Rattle.script.specs.declared.fault.ScriptRefused.{ScriptRefused}
 use Rattle.script.specs.declared.fault.ScriptRefused.TheVariants as read_error
-use Rattle.script.specs.Scripts.{Item, Title, Screen, Buffers, Desktop, StringOf, ClassOf, CallOf, Before, nothing, after, after_items, Spells, AreItemsOf, listing_of, plain_class, Script, script_for, IsScript, IsNoScript, IsReady}
+use Rattle.script.specs.Scripts.{Item, Title, Screen, Buffers, Desktop, StringOf, ClassOf, CallOf, Before, nothing, after, after_items, Spells, AreItemsOf, listing_of, plain_class, class_of, Script, script_for, IsScript, IsNoScript, IsReady}
 use Rattle.script.specs.Faults.{Between, IsFront, Why, why_cut, IsFault, IsError}
 use Rattle.script.specs.Reading.{Draft, empty_draft, after_line, place_at, place_of, from_line, read_of, Reads, Says}
 use Rattle.script.proofs.AssetLemmas.{class_more, string_more}
+use Rattle.script.proofs.BodyLaws.{class_sound}
 use Rattle.script.proofs.ItemLaws.{one_script}
 use Rattle.script.proofs.DraftLaws.{HasItems, StandsIn, front_read, printable_read, read_stands}
 use Rattle.script.proofs.FrontLaws.{front_reads}
@@ -93,7 +94,7 @@ item_good (Desktop c) b block is good =
       high = λ h. good.high (omega (arith, is.0.0));
       early = λ h. absurd (omega arith);
       some = λ h. omega arith;
-      assets = class_more b.said.assets c good.assets (omega arith);
+      assets = class_more b.said.assets (plain_class c) good.assets (omega arith) (class_sound b.said.assets c [] [] tt);
       few_lines = good.few_lines;
       lines = good.lines;
     }
@@ -106,15 +107,15 @@ item_good (StringOf text) b block is good = record {
   few_lines = good.few_lines;
   lines = good.lines;
 }
-item_good (ClassOf back) b block is good =
+item_good (ClassOf back lines) b block is good =
     let below = is.counted.0.1 in
-    let count = length-append b.said.assets.classes (plain_class back ∷ []) in
+    let count = length-append b.said.assets.classes (class_of back lines ∷ []) in
     record {
       wide = good.wide;
       high = good.high;
       early = λ h. absurd (omega (arith, is.early.header));
       some = λ h. omega arith;
-      assets = class_more b.said.assets back good.assets below;
+      assets = class_more b.said.assets (class_of back lines) good.assets below (class_sound b.said.assets back lines is.body is.are);
       few_lines = good.few_lines;
       lines = good.lines;
     }

@@ -13,6 +13,8 @@ use Rattle.spelling.specs.Items.{is_comment}
 use Rattle.spelling.proofs.CallerLemmas.{chosen, named, same_name, no_natural_in, natural_in_again, one_first}
 use Rattle.calls.specs.declared.call.Call.{Call}
 use Rattle.calls.specs.declared.call.Call.TheVariants as call
+use Rattle.class_lines.specs.declared.line.ClassLine.{ClassLine}
+use Rattle.class_lines.specs.Words.{class_line_of}
 use Rattle.calls.specs.declared.line.Act.TheVariants as act
 use Rattle.calls.specs.declared.line.Line.{Line}
 use Rattle.calls.specs.declared.line.Line.TheVariants.{Task}
@@ -23,10 +25,10 @@ use Rattle.script.specs.declared.draft.Stage.TheVariants as stage
 use Rattle.script.specs.declared.fault.Reason.{Reason}
 use Rattle.script.specs.declared.fault.Reason.TheVariants as reason
 use Rattle.script.specs.Fields.{class_in, string_in}
-use Rattle.script.specs.Later.{is_one_of, begins_with_one_of, asset_words, later_words, later_in_block, later_calls, is_later_class, is_later_call}
-use Rattle.script.specs.Scripts.{Before, class_fields, with_string, with_line, with_desktop}
+use Rattle.script.specs.Later.{is_one_of, begins_with_one_of, asset_words, later_words, later_calls, is_later_class, is_later_call}
+use Rattle.script.specs.Scripts.{Before, class_fields, with_string, with_line, class_with, may_have}
 use Rattle.script.specs.Faults.{Place, Between, InClass, is_later, is_later_in_header, is_later_elsewhere, IsCallLine, opens_asset, Holds, rank, Why}
-use Rattle.script.specs.Reading.{Draft, after_value, after_title, after_screen, after_buffers, after_desktop, after_block, after_class, after_string, after_early, after_asset, after_other, after_call, after_body, after_words, after_line, staged, opened, before_at, place_at, place_of, header_reason, block_reason, call_reason}
+use Rattle.script.specs.Reading.{Draft, after_value, after_title, after_screen, after_buffers, after_desktop, after_block, after_class, after_string, after_early, after_asset, after_other, after_call, after_body, after_words, after_line, with_screen, with_colour, ended, after_class_line, opened, before_at, place_at, place_of, header_reason, call_reason}
 use Rattle.script.specs.Fields.{screen_in, desktop_in}
 use Rattle.script.proofs.DraftLaws.{at_odds, string_word}
 
@@ -138,18 +140,14 @@ later_first (Between b) line printable later = (later, earlier) where
   earlier reason.TooLarge less h = h
   earlier reason.Ascii less h = at_odds (is_printable line) printable h
   earlier e less h = absurd (omega arith)
-later_first InClass line printable later = (later, earlier) where
-  earlier : (e : Reason) → rank e < 2 → Holds InClass line e → ⊥
-  earlier reason.TooLarge less h = h
-  earlier reason.Ascii less h = at_odds (is_printable line) printable h
-  earlier e less h = absurd (omega arith)
+later_first InClass line printable later = absurd (cc later)
 
-block_first : (line : List ℕ) → is_printable line ≡ true → is_later InClass line ≡ false → Why InClass line reason.Block
-block_first line printable built = (tt, earlier) where
+block_first : (line : List ℕ) → is_printable line ≡ true → Why InClass line reason.Block
+block_first line printable = (tt, earlier) where
   earlier : (e : Reason) → rank e < 4 → Holds InClass line e → ⊥
   earlier reason.TooLarge less h = h
   earlier reason.Ascii less h = at_odds (is_printable line) printable h
-  earlier reason.Later less h = at_odds (is_later InClass line) h built
+  earlier reason.Later less h = absurd (cc h)
   earlier reason.Header less h = h
   earlier e less h = absurd (omega arith)
 
@@ -237,7 +235,7 @@ title_why d line why printable is =
 screen_why : (d : Draft) (line : List ℕ) (why : Reason) → is_printable line ≡ true → after_screen d line ≡ Err why → Why (Between (before_at 1 d)) line why
 unfolding after_screen
 screen_why d line why printable is =
-    subst (Why (Between (before_at 1 d)) line) (valueless (screen_in (words_of line)) (header_reason line) (λ sides. staged stage.Buffers (record d.said { width = sides.0; height = sides.1.0 })) why is) (header_why (before_at 1 d) line printable (lit< tt))
+    subst (Why (Between (before_at 1 d)) line) (valueless (screen_in (words_of line)) (header_reason line) (λ sides. with_screen d sides.0 sides.1.0) why is) (header_why (before_at 1 d) line printable (lit< tt))
 
 buffers_why : (d : Draft) (line : List ℕ) (why : Reason) → is_printable line ≡ true → after_buffers d line ≡ Err why → Why (Between (before_at 2 d)) line why
 unfolding after_buffers
@@ -247,13 +245,19 @@ buffers_why d line why printable is =
 desktop_why : (d : Draft) (line : List ℕ) (why : Reason) → is_printable line ≡ true → after_desktop d line ≡ Err why → Why (Between (before_at 3 d)) line why
 unfolding after_desktop
 desktop_why d line why printable is =
-    subst (Why (Between (before_at 3 d)) line) (valueless (desktop_in (words_of line)) (header_reason line) (λ colour. staged stage.Body (with_desktop d.said colour.0)) why is) (header_why (before_at 3 d) line printable (lit< tt))
+    subst (Why (Between (before_at 3 d)) line) (valueless (desktop_in (words_of line)) (header_reason line) (λ colour. with_colour d colour.0) why is) (header_why (before_at 3 d) line printable (lit< tt))
+
+class_line_why : (d : Draft) (o : Option ClassLine) (why : Reason) → after_class_line d o ≡ Err why → reason.Block ≡ why
+class_line_why d None why is = cc
+class_line_why d (Some l) why is = (refused (may_have d.said.assets d.class l) (record d { class = class_with d.class l }) reason.Block why is).1
 
 block_why : (d : Draft) (line : List ℕ) (why : Reason) → is_printable line ≡ true → after_block d line ≡ Err why → Why InClass line why
 unfolding after_block
 block_why d line why printable is =
-    subst (Why InClass line) (refused (bytes_eq line (codes "end")) (record d { stage = stage.Body }) (block_reason (words_of line)) why is).1
-    (by_test InClass line (begins_with_one_of later_in_block (words_of line)) reason.Later reason.Block (later_first InClass line printable) (block_first line printable))
+    elim (chosen (bytes_eq line (codes "end")) (Ok (ended d)) (after_class_line d (class_line_of (words_of line))) (Err why) is) [
+      | inl end ↦ absurd (cc (end.1))
+      | inr other ↦ subst (Why InClass line) (class_line_why d (class_line_of (words_of line)) why other.1) (block_first line printable)
+    ]
 
 -- ---- and after the header
 

@@ -31,7 +31,7 @@ small_listing = record {
 -- the items that say so
 abbrev pub small_items : List Item
 small_items =
-    Title ∷ Screen 2 1 ∷ Buffers ∷ Desktop 0 ∷ ClassOf 255
+    Title ∷ Screen 2 1 ∷ Buffers ∷ Desktop 0 ∷ ClassOf 255 []
     ∷ CallOf (by_task_1 (Create 1 (pos 0) (pos 0) 0 1 1))
     ∷ CallOf (by_task_1 (Create 1 (pos 0) (pos 0) 1 1 7)) ∷ CallOf (by_task_1 Exec) ∷ []
 

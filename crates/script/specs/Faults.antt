@@ -4,8 +4,8 @@ use Rattle.std.specs.List.{AllByRecursion}
 use Rattle.spelling.specs.Parts.{lines_of, is_printable}
 use Rattle.spelling.specs.Words.{words_of, natural_in}
 use Rattle.spelling.specs.Fields.{AreIn}
-use Rattle.spelling.specs.Items.{AreComments}
 use Rattle.spelling.specs.FirstFaults.{IsFirst, IsFirstFault}
+use Rattle.class_lines.specs.declared.line.ClassLine.{ClassLine}
 use Rattle.calls.specs.declared.line.Line.{Line}
 use Rattle.calls.specs.Words.{text_of_line, LineFits}
 use Rattle.script.specs.declared.fault.Reason.{Reason}
@@ -13,8 +13,8 @@ use Rattle.script.specs.declared.fault.Reason.TheVariants as reason
 use Rattle.script.specs.declared.fault.ScriptFault.{ScriptFault}
 use Rattle.script.specs.declared.fault.ScriptRefused.{ScriptRefused}
 use Rattle.script.specs.declared.fault.ScriptRefused.TheVariants as read_error
-use Rattle.script.specs.Later.{is_one_of, begins_with_one_of, asset_words, later_words, later_in_block, is_later_class, is_later_call}
-use Rattle.script.specs.Scripts.{Item, Before, IsEarly, class_fields, class_text, after_items, AreItemsOf}
+use Rattle.script.specs.Later.{is_one_of, begins_with_one_of, asset_words, later_words, is_later_class, is_later_call}
+use Rattle.script.specs.Scripts.{Item, Before, IsEarly, AreClassLines, class_fields, class_text, after_items, AreItemsOf}
 
 -- ---- where a line stands
 
@@ -29,7 +29,7 @@ pub record AreWhole (lines : List (List ℕ)) (b : Before) : Type 0 where
   pub spelled : AreItemsOf items lines
   pub before : after_items items ≡ b
 
--- whole items, and then the first line of a class that may be opened there, and comments
+-- whole items, and then the first line of a class that may be opened there, and lines of it
 pub record AreOpen (lines : List (List ℕ)) : Type 0 where
   pub front : List (List ℕ)
   pub before : Before
@@ -37,8 +37,9 @@ pub record AreOpen (lines : List (List ℕ)) : Type 0 where
   pub early : IsEarly before
   pub back : ℕ
   pub counted : AreIn class_fields (length before.said.assets.classes, (back, tt))
+  pub class_lines : List ClassLine
   pub body : List (List ℕ)
-  pub comments : AreComments body
+  pub are : AreClassLines before.said.assets back class_lines body
   pub spelled : lines ≡ front ++ class_text (length before.said.assets.classes) back ∷ body
 
 abbrev pub StandsAt : List (List ℕ) → Place → Type 0
@@ -63,7 +64,7 @@ is_later_elsewhere (first ∷ words) =
 abbrev pub is_later : Place → List ℕ → Bool
 is_later (Between b) line =
     if nat_lt b.header 4 then is_later_in_header line else is_later_elsewhere (words_of line)
-is_later InClass line = begins_with_one_of later_in_block (words_of line)
+is_later InClass line = false
 
 -- ---- reasons
 

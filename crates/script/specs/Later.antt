@@ -20,10 +20,6 @@ asset_words = codes "string class"
 unfoldable pub later_words : List ℕ
 later_words = codes "font bitmap display viewer done"
 
--- first words of a class's lines
-unfoldable pub later_in_block : List ℕ
-later_in_block = codes "fill frame hline vline line bitmap text number on"
-
 -- second words, after a task
 unfoldable pub later_calls : List ℕ
 later_calls =

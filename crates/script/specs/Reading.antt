@@ -1,5 +1,8 @@
 -- Reading a file line by line: what its items say, or its first fault.
 use Rattle.std.specs.Prelude.{◌≡◌, ℕ, ◌&&◌, ◌||◌, List, [], ◌∷◌, length, Option, Some, None, is_some, Result, Ok, Err, nat_lt, nat_le, ◌==◌, if◌then◌else◌, bytes_eq, codes}
+use Rattle.paint_ops.specs.Kinds.{Class}
+use Rattle.class_lines.specs.declared.line.ClassLine.{ClassLine}
+use Rattle.class_lines.specs.Words.{class_line_of}
 use Rattle.calls.specs.declared.line.Line.{Line}
 use Rattle.calls.specs.Words.{line_of}
 use Rattle.spelling.specs.Parts.{lines_of, is_printable}
@@ -17,8 +20,8 @@ use Rattle.script.specs.declared.fault.LineError.TheVariants as line_error
 use Rattle.script.specs.declared.fault.ScriptRefused.{ScriptRefused}
 use Rattle.script.specs.declared.fault.ScriptRefused.TheVariants as read_error
 use Rattle.script.specs.Fields.{screen_in, desktop_in, class_in, string_in}
-use Rattle.script.specs.Later.{is_one_of, begins_with_one_of, asset_words, later_words, later_in_block, is_later_class, is_later_call}
-use Rattle.script.specs.Scripts.{Before, Listing, Script, class_fields, empty_listing, plain_class, with_class, with_string, with_line, with_desktop, script_for}
+use Rattle.script.specs.Later.{is_one_of, asset_words, later_words, is_later_class, is_later_call}
+use Rattle.script.specs.Scripts.{Before, Listing, Script, class_fields, empty_listing, plain_class, with_class, with_string, with_line, with_desktop, class_with, may_have, script_for}
 use Rattle.script.specs.Faults.{Place, Between, InClass, why_cut}
 
 -- ---- reasons against a line
@@ -28,10 +31,6 @@ abbrev pub header_reason : List ℕ → Reason
 header_reason line =
     if bytes_eq line (codes "buffers 2") || bytes_eq line (codes "buffers 3") then Later else Header
 
--- against a line that doesn't belong in a class's block
-abbrev pub block_reason : List (List ℕ) → Reason
-block_reason words = if begins_with_one_of later_in_block words then Later else Block
-
 -- against a line with this first word that is no asset's and no call
 abbrev pub call_reason : List ℕ → List (List ℕ) → Reason
 call_reason first words =
@@ -40,17 +39,19 @@ call_reason first words =
 
 -- ---- lines
 
--- what the lines so far say, and which line comes next
+-- what the lines so far say, which line comes next, and the class whose block is open
 pub record Draft : Type 0 where
   pub stage : Stage
   pub said : Listing
+  pub class : Class
+
+-- where no class's block is open
+abbrev pub no_class : Class
+no_class = record { back = None; ops = []; reactions = [] }
 
 -- before the first line
 abbrev pub empty_draft : Draft
-empty_draft = record { stage = stage.Title; said = empty_listing }
-
-abbrev pub staged : Stage → Listing → Draft
-staged s said = record { stage = s; said = said }
+empty_draft = record { stage = stage.Title; said = empty_listing; class = no_class }
 
 -- the draft after what a line spells, or the reason against it
 abbrev pub after_value : {A : Type 0} → Option A → Reason → (A → Draft) → Result Draft Reason
@@ -63,11 +64,15 @@ after_title d line =
     if bytes_eq line (codes "mtgui 1") then Ok (record d { stage = stage.Screen })
     else Err (header_reason line)
 
+abbrev pub with_screen : Draft → ℕ → ℕ → Draft
+with_screen d w h =
+    record d { stage = stage.Buffers; said = record d.said { width = w; height = h } }
+
 -- after `screen W H`
 unfoldable pub after_screen : Draft → List ℕ → Result Draft Reason
 after_screen d line =
     after_value (screen_in (words_of line)) (header_reason line)
-    (λ sides. staged stage.Buffers (record d.said { width = sides.0; height = sides.1.0 }))
+    (λ sides. with_screen d sides.0 sides.1.0)
 
 -- after `buffers 1`
 unfoldable pub after_buffers : Draft → List ℕ → Result Draft Reason
@@ -75,21 +80,35 @@ after_buffers d line =
     if bytes_eq line (codes "buffers 1") then Ok (record d { stage = stage.Desktop })
     else Err (header_reason line)
 
+abbrev pub with_colour : Draft → ℕ → Draft
+with_colour d colour = record d { stage = stage.Body; said = with_desktop d.said colour }
+
 -- after `desktop COLOUR`, whose colour is class 0's
 unfoldable pub after_desktop : Draft → List ℕ → Result Draft Reason
 after_desktop d line =
     after_value (desktop_in (words_of line)) (header_reason line)
-    (λ colour. staged stage.Body (with_desktop d.said colour.0))
+    (λ colour. with_colour d colour.0)
 
--- after the end of a class's block
+-- the draft with the class whose block ends
+abbrev pub ended : Draft → Draft
+ended d = record { stage = stage.Body; said = with_class d.said d.class; class = no_class }
+
+-- after a class's line
+abbrev pub after_class_line : Draft → Option ClassLine → Result Draft Reason
+after_class_line d None = Err Block
+after_class_line d (Some line) =
+    if may_have d.said.assets d.class line then Ok (record d { class = class_with d.class line })
+    else Err Block
+
+-- after a line in a class's block
 unfoldable pub after_block : Draft → List ℕ → Result Draft Reason
 after_block d line =
-    if bytes_eq line (codes "end") then Ok (record d { stage = stage.Body })
-    else Err (block_reason (words_of line))
+    if bytes_eq line (codes "end") then Ok (ended d)
+    else after_class_line d (class_line_of (words_of line))
 
 -- the draft with a class that was opened
 abbrev pub opened : Draft → ℕ → Draft
-opened d back = staged stage.Block (with_class d.said (plain_class back))
+opened d back = record d { stage = stage.Block; class = plain_class back }
 
 -- after the line that opens the class of this number and colour
 abbrev pub after_class : Draft → Option (Values class_fields) → Result Draft Reason
@@ -191,6 +210,7 @@ draft_of d =
         assets = d.assets;
         lines = d.lines.items;
       };
+      class = d.class;
     }
 
 -- what taking a line returned, and left

@@ -1,9 +1,14 @@
 -- What a script says, and which files are scripts.
-use Rattle.std.specs.Prelude.{◌≡◌, ℕ, ◌+◌, ◌≤◌, true, List, [], ◌∷◌, ◌++◌, length, Some, codes, decimal}
+use Rattle.std.specs.Prelude.{◌≡◌, ℕ, ◌+◌, ◌≤◌, Bool, true, ◌&&◌, List, [], ◌∷◌, ◌++◌, length, Some, nat_lt, codes, decimal}
 use Rattle.std.specs.List.{AllByRecursion}
+use Rattle.paint_ops.specs.declared.op.Op.{Op}
+use Rattle.paint_ops.specs.declared.op.Op.TheVariants as op
 use Rattle.paint_ops.specs.Kinds.{Class, Assets}
 use Rattle.paint_ops.specs.Soundness.{IsSound}
 use Rattle.paint_ops.specs.Texts.{IsText}
+use Rattle.class_lines.specs.declared.line.ClassLine.{ClassLine}
+use Rattle.class_lines.specs.declared.line.ClassLine.TheVariants.{Operation, Reaction}
+use Rattle.class_lines.specs.Words.{text_of_class_line, ClassLineFits}
 use Rattle.calls.specs.declared.config.Config.{Config}
 use Rattle.calls.specs.declared.line.Line.{Line}
 use Rattle.calls.specs.Lines.{FitsItsTask}
@@ -11,7 +16,7 @@ use Rattle.calls.specs.Words.{text_of_line, LineFits}
 use Rattle.spelling.specs.Parts.{lines_of, is_printable}
 use Rattle.spelling.specs.Words.{text_of_words}
 use Rattle.spelling.specs.Fields.{Field, Natural, Colour, AreIn, text_with}
-use Rattle.spelling.specs.Items.{AreComments, AreItems, all_after}
+use Rattle.spelling.specs.Items.{AreItems, all_after}
 
 -- ---- the fields of lines
 
@@ -68,17 +73,53 @@ with_string l text =
 abbrev pub with_line : Listing → Line → Listing
 with_line l line = record l { lines = l.lines ++ line ∷ [] }
 
+-- ---- a class's body
+
+-- with an operation or a reaction more
+abbrev pub class_with : Class → ClassLine → Class
+class_with class (Operation o) = record class { ops = class.ops ++ o ∷ [] }
+class_with class (Reaction r) = record class { reactions = class.reactions ++ r ∷ [] }
+
+-- the font, the bitmap and the string that an operation names are there
+abbrev pub are_there : Assets → Op → Bool
+are_there assets (op.Bitmap bitmap x y) = nat_lt bitmap (length assets.bitmaps)
+are_there assets (op.Text font x y colour string) =
+    nat_lt font (length assets.fonts) && nat_lt string (length assets.strings)
+are_there assets (op.Number font x y colour num) = nat_lt font (length assets.fonts)
+are_there assets _ = true
+
+-- a class has at most 64 operations and at most 16 reactions
+abbrev pub may_have : Assets → Class → ClassLine → Bool
+may_have assets class (Operation o) = nat_lt (length class.ops) 64 && are_there assets o
+may_have assets class (Reaction r) = nat_lt (length class.reactions) 16
+
+-- a line of a class that stands where these assets do, after what the class has already
+pub record IsClassLine (assets : Assets) (class : Class) (line : ClassLine)
+    (block : List (List ℕ)) : Type 0 where
+  pub room : may_have assets class line ≡ true
+  pub fits : ClassLineFits line
+  pub spelled : block ≡ text_of_class_line line ∷ []
+
+-- the lines of a class with this back colour, with comments between them
+abbrev pub AreClassLines : Assets → ℕ → List ClassLine → List (List ℕ) → Type 0
+AreClassLines assets back lines body =
+    AreItems (IsClassLine assets) class_with (plain_class back) lines body
+
+-- the class of these lines
+abbrev pub class_of : ℕ → List ClassLine → Class
+class_of back lines = all_after class_with (plain_class back) lines
+
 -- ---- items
 
--- the header's four lines, and what follows them: strings, classes by their back colours, and call
--- lines
+-- the header's four lines, and what follows them: strings, classes by their back colours and lines,
+-- and call lines
 pub data Item : Type 0 where
   Title : Item
   Screen : ℕ → ℕ → Item
   Buffers : Item
   Desktop : ℕ → Item
   StringOf : List ℕ → Item
-  ClassOf : ℕ → Item
+  ClassOf : ℕ → List ClassLine → Item
   CallOf : Line → Item
 
 -- what stands before an item: how many lines of the header, and what the items say
@@ -100,7 +141,7 @@ after b (Screen w h) =
 after b Buffers = record b { header = 3 }
 after b (Desktop colour) = record { header = 4; said = with_desktop b.said colour }
 after b (StringOf text) = record b { said = with_string b.said text }
-after b (ClassOf back) = record b { said = with_class b.said (plain_class back) }
+after b (ClassOf back lines) = record b { said = with_class b.said (class_of back lines) }
 after b (CallOf line) = record b { said = with_line b.said line }
 
 -- what stands after items
@@ -127,12 +168,13 @@ pub record IsStringBlock (b : Before) (text : List ℕ) (block : List (List ℕ)
   pub is : IsText text
   pub spelled : block ≡ string_text (length b.said.assets.strings) text ∷ []
 
--- a class's lines, with comments between them
-pub record IsClassBlock (b : Before) (back : ℕ) (block : List (List ℕ)) : Type 0 where
+-- a class's first line, its lines with comments between them, and `end`
+pub record IsClassBlock (b : Before) (back : ℕ) (lines : List ClassLine)
+    (block : List (List ℕ)) : Type 0 where
   pub early : IsEarly b
   pub counted : AreIn class_fields (length b.said.assets.classes, (back, tt))
   pub body : List (List ℕ)
-  pub comments : AreComments body
+  pub are : AreClassLines b.said.assets back lines body
   pub spelled : block ≡ class_text (length b.said.assets.classes) back ∷ body ++ codes "end" ∷ []
 
 -- a call line: after the header, and one of at most 400,000
@@ -153,7 +195,7 @@ Spells b (Desktop colour) block =
     IsHeader b 3 block (text_with (codes "desktop") desktop_fields (colour, tt))
     × AreIn desktop_fields (colour, tt)
 Spells b (StringOf text) block = IsStringBlock b text block
-Spells b (ClassOf back) block = IsClassBlock b back block
+Spells b (ClassOf back lines) block = IsClassBlock b back lines block
 Spells b (CallOf line) block = IsCallBlock b line block
 
 -- the lines are these items, with comments between them

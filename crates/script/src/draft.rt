@@ -1,28 +1,37 @@
 //! A script as far as it was read.
 
-ghost use Rattle.std.specs.Prelude.{◌≡◌, ◌≤◌, length, IfOk};
+ghost use Rattle.std.specs.Prelude.{◌≡◌, ◌≤◌, length, IfOk, Ok};
 ghost use Rattle.script.specs.declared.draft.Stage.TheVariants as stage;
 ghost use Rattle.spelling.specs.Words.{left};
 ghost use Rattle.script.specs.Reading.{draft_of, empty_draft, Takes};
 ghost use Rattle.script.specs.Reading.{after_title, after_screen, after_buffers, after_desktop};
-ghost use Rattle.script.specs.Reading.{after_block, after_class, after_string, after_early};
+ghost use Rattle.script.specs.Reading.{no_class, ended, after_class_line, after_block};
+ghost use Rattle.script.specs.Reading.{after_class, after_string, after_early};
 ghost use Rattle.script.specs.Reading.{after_asset, after_other, after_body, after_words};
 ghost use Rattle.script.specs.Fields.{class_in, string_in};
-ghost use Rattle.script.specs.Scripts.{plain_class, script_for};
+ghost use Rattle.script.specs.Scripts.{are_there, plain_class, script_for};
 ghost use Rattle.spelling.specs.Words.{words_of};
 
 use crate::fault::{LineError, Reason};
 use crate::fields::{class_in, desktop_in, line_in, screen_in, string_in};
-use crate::reasons::{block_reason, call_reason, header_reason, is_asset_word, is_later_class};
+use crate::reasons::{call_reason, header_reason, is_asset_word, is_later_class};
 use crate::script::Script;
 use calls::{Config, Line};
+use class_lines::{ClassLine, class_line};
 use gfx_base::Colour;
-use paint_ops::{Assets, Class};
+use paint_ops::{Assets, Class, Op};
 use spelling::word_at;
 use std::alloc::{AllocError, Global};
+use std::mem;
 
 /// How many classes a script may have, with the desktop's.
 const MOST_CLASSES: usize = 64;
+
+/// How many operations a class may have.
+const MOST_OPERATIONS: usize = 64;
+
+/// How many reactions a class may have.
+const MOST_REACTIONS: usize = 16;
 
 /// How many call lines a script may have.
 const MOST_LINES: usize = 400_000;
@@ -36,7 +45,7 @@ pub enum Stage {
     Desktop,
     /// A string, a class or a call.
     Body,
-    /// The end of a class's block.
+    /// A line of a class, or its block's end.
     Block,
 }
 
@@ -50,6 +59,19 @@ pub struct Draft {
     desktop: Colour,
     assets: Assets,
     lines: Vec<Line>,
+    /// The class whose block is open.
+    class: Class,
+}
+
+/// The class that has nothing, where no block is open.
+fn no_class(alloc: Global) -> Class
+    ensures { result ≡ no_class }
+{
+    Class {
+        back: None,
+        ops: Vec::new(alloc),
+        reactions: Vec::new(alloc),
+    }
 }
 
 /// The class that has a back colour alone.
@@ -111,15 +133,58 @@ fn take_desktop(draft: &mut Draft, line: &[u8]) -> Result<(), LineError>
     Ok(())
 }
 
+/// Whether the font, the bitmap and the string that an operation names are there.
+fn are_there(assets: &Assets, op: &Op) -> bool
+    ensures { result ≡ are_there assets.now op.now }
+{
+    match op {
+        Op::Bitmap(bitmap, ..) => usize::from(*bitmap) < assets.bitmaps.len(),
+        Op::Text(font, _, _, _, string) => {
+            usize::from(*font) < assets.fonts.len() && usize::from(*string) < assets.strings.len()
+        }
+        Op::Number(font, ..) => usize::from(*font) < assets.fonts.len(),
+        _ => true,
+    }
+}
+
+/// Takes a class's line, if it is one.
+fn take_class_line(draft: &mut Draft, line: Option<ClassLine>) -> Result<(), LineError>
+    ensures { Takes result draft.new (after_class_line (draft_of draft.old) line) }
+{
+    match line {
+        Some(ClassLine::Operation(op))
+            if draft.class.ops.len() < MOST_OPERATIONS && are_there(&draft.assets, &op) => {
+            draft.class.ops.push(op)?;
+            Ok(())
+        }
+        Some(ClassLine::Reaction(reaction)) if draft.class.reactions.len() < MOST_REACTIONS => {
+            draft.class.reactions.push(reaction)?;
+            Ok(())
+        }
+        _ => Err(LineError::Wrong(Reason::Block)),
+    }
+}
+
+/// Takes the end of a class's block.
+fn end_class(draft: &mut Draft) -> Result<(), LineError>
+    ensures { Takes result draft.new (Ok (ended (draft_of draft.old))) }
+{
+    let class = mem::replace(&mut draft.class, no_class(draft.alloc));
+    draft.assets.classes.push(class)?;
+    draft.stage = Stage::Body;
+    Ok(())
+}
+
+/// Takes a line in a class's block.
 #[tactic(auto, unfolding(crate::specs::Reading::after_block))]
 fn take_block(draft: &mut Draft, line: &[u8]) -> Result<(), LineError>
     ensures { Takes result draft.new (after_block (draft_of draft.old) line.now) }
 {
-    if line != b"end".as_slice() {
-        return Err(LineError::Wrong(block_reason(line)));
+    if line == b"end".as_slice() {
+        end_class(draft)
+    } else {
+        take_class_line(draft, class_line(line))
     }
-    draft.stage = Stage::Body;
-    Ok(())
 }
 
 /// Takes a line that opens a class, by its words after `class`.
@@ -133,7 +198,7 @@ fn take_class(draft: &mut Draft, rest: Option<&[u8]>) -> Result<(), LineError>
     if usize::from(number) != draft.assets.classes.len() {
         return Err(LineError::Wrong(Reason::Asset));
     }
-    draft.assets.classes.push(plain_class(draft.alloc, colour))?;
+    draft.class = plain_class(draft.alloc, colour);
     draft.stage = Stage::Block;
     Ok(())
 }
@@ -227,6 +292,7 @@ impl Draft {
             desktop: Colour::default(),
             assets,
             lines: Vec::new(alloc),
+            class: no_class(alloc),
         })
     }
 

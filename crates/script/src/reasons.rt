@@ -3,7 +3,7 @@
 ghost use Rattle.std.specs.Prelude.{◌≡◌};
 ghost use Rattle.spelling.specs.Words.{left, words_of};
 ghost use Rattle.script.specs.Later.{is_one_of, asset_words, is_later_class, is_later_call};
-ghost use Rattle.script.specs.Reading.{header_reason, block_reason, call_reason};
+ghost use Rattle.script.specs.Reading.{header_reason, call_reason};
 
 use crate::fault::Reason;
 use spelling::{begins_with, natural_in, word_at};
@@ -13,9 +13,6 @@ const ASSET_WORDS: &[u8] = b"string class";
 
 /// First words outside blocks, of forms that this version doesn't build.
 const LATER_WORDS: &[u8] = b"font bitmap display viewer done";
-
-/// First words of a class's lines, of such forms.
-const LATER_IN_BLOCK: &[u8] = b"fill frame hline vline line bitmap text number on";
 
 /// Second words, after a task, of such forms.
 const LATER_CALLS: &[u8] =
@@ -66,17 +63,6 @@ pub fn header_reason(line: &[u8]) -> Reason
         Reason::Later
     } else {
         Reason::Header
-    }
-}
-
-/// Why a line doesn't belong in a class's block.
-#[tactic(auto, unfolding(crate::specs::Later::later_in_block))]
-pub fn block_reason(line: &[u8]) -> Reason
-    ensures { result ≡ block_reason (words_of line.now) }
-{
-    match word_at(Some(line)) {
-        Some((first, _)) if is_one_of(LATER_IN_BLOCK, first) => Reason::Later,
-        _ => Reason::Block,
     }
 }
 

@@ -2,6 +2,7 @@
 
 use calls::{Act, Call, Config, Line};
 use gfx_base::Colour;
+use paint_ops::{Base, Class, Num, Op, Operand, React, Reaction};
 use script::{MOST_BYTES, Reason, Script, ScriptFault, ScriptRefused, read};
 use std::alloc::Global;
 
@@ -275,7 +276,7 @@ fn the_first_fault_of_a_header(rt: HostRuntime) {
 }
 
 /// The line and the reason of the first fault, and the lines after the header, which `|` parts.
-const CLASS_FAULTS: [(u32, Reason, &str); 10] = [
+const CLASS_FAULTS: [(u32, Reason, &str); 12] = [
     // The number, or the spelling.
     (
         5,
@@ -290,14 +291,25 @@ const CLASS_FAULTS: [(u32, Reason, &str); 10] = [
     ),
     // Not built yet.
     (5, Reason::Later, "class 1 -\n|class x -\n"),
-    (
-        6,
-        Reason::Later,
-        "class 1 000000\nfill 0 0 1 1 000000\n|class 1 000000\nframe\n\
-        |class 1 000000\non 1 set 0 1\n|1 exec\nclass 1 -\n",
-    ),
+    (6, Reason::Later, "1 exec\nclass 1 -\n"),
     // The block isn't ended.
     (6, Reason::End, "class 1 000000\n"),
+    (
+        7,
+        Reason::End,
+        "class 1 000000\nfill 0 0 1 1 000000\n|class 1 000000\non 1 set 0 1\n",
+    ),
+    // It has another line, or one that names what isn't there.
+    (
+        6,
+        Reason::Block,
+        "class 1 000000\nframe\n|class 1 000000\nfill 0 0 1 000000\n\
+        |class 1 000000\nfill 0 0 1 w+0 000000\n|class 1 000000\nvline 0 0 v16 000000\n\
+        |class 1 000000\non 1 set 16 0\n|class 1 000000\non 1 set 0 b\n\
+        |class 1 000000\non 256 up 1\n|class 1 000000\non 1 up 256\n\
+        |class 1 000000\nbitmap 0 0 0\n|class 1 000000\nnumber 0 0 0 000000 1\n\
+        |class 1 000000\ntext 0 0 0 000000 0\n",
+    ),
     (8, Reason::End, "class 1 000000\n\n# open\n"),
     (
         6,
@@ -418,6 +430,114 @@ fn the_first_fault_of_calls(rt: HostRuntime) {
             );
         }
     }
+}
+
+/// A coordinate that is a number.
+fn number(plus: i16) -> Num {
+    Num {
+        base: Base::Zero,
+        plus,
+    }
+}
+
+/// A class with each kind of line that needs no font and no bitmap, and comments among them.
+const PANEL_CLASS: &str = "class 1 0A0B0C\non 1 add 2 a\nfill 0 0 w-1 v3 FF0000\n\n\
+    frame 1 2 h+3 4 00FF00\non 2 set 15 -32768\n# a comment\nhline -1 v15-32768 2 0000FF\n\
+    vline 0 1 h 000001\nline w 0 0 32767 000002\non 1 up 255\nend\n";
+
+/// Whether a class says what those lines say.
+fn is_panel_class(class: &Class) -> bool {
+    let width = Num {
+        base: Base::Width,
+        plus: 0,
+    };
+    let height = Num {
+        base: Base::Height,
+        plus: 0,
+    };
+    let ops = [
+        Op::Fill(
+            number(0),
+            number(0),
+            Num { plus: -1, ..width },
+            Num {
+                base: Base::Value(3),
+                plus: 0,
+            },
+            colour(0xFF_0000),
+        ),
+        Op::Frame(
+            number(1),
+            number(2),
+            Num { plus: 3, ..height },
+            number(4),
+            colour(0x00_FF00),
+        ),
+        Op::HLine(
+            number(-1),
+            Num {
+                base: Base::Value(15),
+                plus: i16::MIN,
+            },
+            number(2),
+            colour(0x00_00FF),
+        ),
+        Op::VLine(number(0), number(1), height, colour(1)),
+        Op::Line(width, number(0), number(0), number(i16::MAX), colour(2)),
+    ];
+    let reactions = [
+        Reaction {
+            on: 1,
+            react: React::Add(2, Operand::Argument),
+        },
+        Reaction {
+            on: 2,
+            react: React::Set(15, Operand::Const(i16::MIN)),
+        },
+        Reaction {
+            on: 1,
+            react: React::Up(255),
+        },
+    ];
+    class.back == Some(colour(0x0A_0B0C))
+        && class.ops.as_slice() == ops.as_slice()
+        && class.reactions.as_slice() == reactions.as_slice()
+}
+
+fn reads_panel_class(alloc: Global) -> Option<bool> {
+    let text = format!(in alloc; "{HEADER}{PANEL_CLASS}").ok()?;
+    let script = read(alloc, text.as_bytes()).ok()?;
+    Some(script.assets.classes.len() == 2 && is_panel_class(script.assets.classes.get(1)?))
+}
+
+#[test]
+fn a_class_has_operations_and_reactions_each_in_order(rt: HostRuntime) {
+    assert_eq!(rt; reads_panel_class(rt.alloc()), Some(true));
+}
+
+/// A text with a class that has a line so often.
+fn text_with_lines(alloc: Global, count: u32, line: &str) -> Option<String> {
+    let mut text = format!(in alloc; "{HEADER}class 1 000000\n").ok()?;
+    for _ in 0..count {
+        text.push_str(line).ok()?;
+    }
+    text.push_str("end\n").ok()?;
+    Some(text)
+}
+
+/// Whether a class may have a line so often, and once more is a fault at that line.
+fn is_most(alloc: Global, count: u32, line: &str) -> Option<bool> {
+    let most = text_with_lines(alloc, count, line)?;
+    let more = text_with_lines(alloc, count.saturating_add(1), line)?;
+    let last = count.saturating_add(6);
+    let is_read = read(alloc, most.as_bytes()).is_ok();
+    Some(is_read && is_fault(alloc, more.as_bytes(), last, Reason::Block))
+}
+
+#[test]
+fn a_class_has_at_most_64_operations_and_16_reactions(rt: HostRuntime) {
+    assert_eq!(rt; is_most(rt.alloc(), 64, "hline 0 1 2 0000FF\n"), Some(true));
+    assert_eq!(rt; is_most(rt.alloc(), 16, "on 1 up 2\n"), Some(true));
 }
 
 /// Strings' lines, each with its text: with spaces in it and around it, with none, of 64 bytes, and
