@@ -1,11 +1,11 @@
 -- The laws of call lines, the same for each word of the table.
-use Rattle.std.proofs.Common.{◌≡◌, ℕ, ◌≤◌, Bool, true, ◌&&◌, List, [], ◌∷◌, ◌++◌, Option, Some, refl, sym, ap, subst, ◌∙◌, inl, inr, arith, lit<}
-use Rattle.std.specs.Prelude.{bytes_eq}
+use Rattle.std.proofs.Common.{◌≡◌, ℕ, ◌≤◌, Bool, true, false, ◌&&◌, List, [], ◌∷◌, ◌++◌, Some, refl, sym, ap, subst, ◌∙◌, inl, inr, arith, lit<}
+use Rattle.std.specs.Prelude.{bytes_eq, codes}
 use Rattle.std.specs.Fmt.{decimal}
 use Rattle.std.specs.List.{AllByRecursion, find}
 use Rattle.std.proofs.lemmas.Bool.{and_parts}
 use Rattle.std.proofs.lemmas.List.{append-nil}
-use Rattle.spelling.specs.Words.{◌>>=◌, words_of, first_word, natural_at}
+use Rattle.spelling.specs.Words.{words_of, first_word, natural_at}
 use Rattle.std.proofs.lemmas.Option.{same_Some}
 use Rattle.spelling.proofs.CallerLemmas.{IsWhole, parts-join, bind_some, chosen, onto, word_takes, named, nothing_left, natural_at_takes, natural_at_again, line_from_words, whole_by_test, natural_whole, fields_take, fields_again, fields_whole}
 use Rattle.calls.specs.declared.word.Word.{Word}
@@ -14,9 +14,10 @@ use Rattle.calls.specs.declared.call.Call.{Call}
 use Rattle.calls.specs.declared.call.Call.TheVariants as call
 use Rattle.calls.specs.declared.line.Line.{Line}
 use Rattle.calls.specs.declared.line.Line.TheVariants.{Task}
+use Rattle.calls.specs.declared.line.Act.{Act}
 use Rattle.calls.specs.declared.line.Act.TheVariants as act
-use Rattle.spelling.specs.Fields.{Values, texts_of, AreIn, is_word, are_fields, made, read_fields}
-use Rattle.calls.specs.Words.{Said, said_by, SaidFits, Row, row, name_of_word, fields_of, make_of, call_by, row_of, all_words, said, words_of_said, words_of_call, CallFits, word_of, call_with, call_at, line_of, line_words, text_of_line, LineFits}
+use Rattle.spelling.specs.Fields.{Field, Values, texts_of, AreIn, is_word, are_fields, made, read_fields}
+use Rattle.calls.specs.Words.{Said, said_by, SaidFits, Row, row, name_of_word, fields_of, make_of, call_by, row_of, all_words, said, words_of_said, words_of_call, CallFits, words_of_act, ActFits, word_of, call_with, act_named, act_at, line_of, line_words, text_of_line, LineFits}
 
 -- ---- the table: each clause is checked for each word
 
@@ -44,6 +45,19 @@ said_made w vs are = refl
 by_row : (r : Row) (words : List (List ℕ)) → call_by r words ≡ read_fields (fields_of r) (make_of r) words
 by_row (row name fields make) words = refl
 
+-- ---- the lock
+
+-- no word of the table is one on the lock
+word_is_no_lock : (w : Word) → bytes_eq (name_of_word w) (codes "lock") ≡ false
+unfolding name_of_word
+word_is_no_lock word.Exec = refl
+word_is_no_lock w = refl
+
+word_is_no_unlock : (w : Word) → bytes_eq (name_of_word w) (codes "unlock") ≡ false
+unfolding name_of_word
+word_is_no_unlock word.Exec = refl
+word_is_no_unlock w = refl
+
 -- ---- calls
 
 found_passes : {A : Type 0} (p : A → Bool) (xs : List A) (x : A) → find p xs ≡ Some x → p x ≡ true
@@ -64,25 +78,23 @@ SpellsSaid words s rest = (words ≡ words_of_said s ++ rest) × SaidFits s
 abbrev Spells : List (List ℕ) → Call × List (List ℕ) → Type 0
 Spells words x = SpellsSaid words (said x.0) x.1
 
-call_takes : (words : List (List ℕ)) (x : Call × List (List ℕ)) → call_at words ≡ Some x → Spells words x
-unfolding call_at
-call_takes words x e =
-    let n = bind_some (first_word words) _ x e in
-    let w = bind_some (word_of n.0.0) _ x n.2 in
-    let r = fields_take (fields_of (row_of w.0)) (make_of (row_of w.0)) n.0.1 x (sym (by_row (row_of w.0) n.0.1) ∙ w.2) in
-    let same : said_by w.0 r.0 ≡ said x.0 = sym (said_made w.0 r.0 r.2) ∙ ap said r.3 in
-    subst (λ (t : Said). SpellsSaid words t x.1) same
-    (word_takes words n.0 n.1 ∙ ap (λ (v : List ℕ). v ∷ n.0.1) (word_taken n.0.0 w.0 w.1) ∙ onto (name_of_word w.0) _ _ r.1, r.2)
+call_takes : (name : List ℕ) (words : List (List ℕ)) (w : Word) (x : Call × List (List ℕ)) → word_of name ≡ Some w → call_with w words ≡ Some x → Spells (name ∷ words) x
+call_takes name words w x found e =
+    let r = fields_take (fields_of (row_of w)) (make_of (row_of w)) words x (sym (by_row (row_of w) words) ∙ e) in
+    let same : said_by w r.0 ≡ said x.0 = sym (said_made w r.0 r.2) ∙ ap said r.3 in
+    subst (λ (t : Said). SpellsSaid (name ∷ words) t x.1) same
+    (ap (λ (v : List ℕ). v ∷ words) (word_taken name w found) ∙ onto (name_of_word w) _ _ r.1, r.2)
 
-said_read : (s : Said) (rest : List (List ℕ)) → SaidFits s → call_at (words_of_said s ++ rest) ≡ Some (made_of s, rest)
-unfolding call_at
-said_read (said_by w vs) rest fits =
+said_read : (s : Said) → SaidFits s → act_at (words_of_said s) ≡ Some (act.Call (made_of s), [])
+unfolding act_at
+said_read (said_by w vs) fits =
     let right = and_parts (is_word (name_of_word w)) _ (row_is_right w) in
-    ap (λ (o : Option Word). o >>= λ v. call_with v (texts_of (fields_of (row_of w)) vs ++ rest)) (word_again w)
-    ∙ by_row (row_of w) _ ∙ fields_again (fields_of (row_of w)) (make_of (row_of w)) vs rest right.1 fits
+    let fields : List Field = fields_of (row_of w) in
+    let read : call_with w (texts_of fields vs) ≡ Some (made_of (said_by w vs), []) = by_row (row_of w) _ ∙ ap (read_fields fields (make_of (row_of w))) (sym (append-nil (texts_of fields vs))) ∙ fields_again fields (make_of (row_of w)) vs [] right.1 fits in
+    rw (word_is_no_lock w, word_is_no_unlock w, word_again w, read) refl
 
-call_again : (c : Call) (rest : List (List ℕ)) → CallFits c → call_at (words_of_call c ++ rest) ≡ Some (c, rest)
-call_again c rest fits = said_read (said c) rest fits ∙ ap (λ (d : Call). Some (d, rest)) (said_again c)
+call_again : (c : Call) → CallFits c → act_at (words_of_call c) ≡ Some (act.Call c, [])
+call_again c fits = said_read (said c) fits ∙ ap (λ (d : Call). Some (act.Call d, [])) (said_again c)
 
 said_whole : (s : Said) → SaidFits s → AllByRecursion (IsWhole 32) (words_of_said s)
 said_whole (said_by w vs) fits =
@@ -91,27 +103,60 @@ said_whole (said_by w vs) fits =
 
 -- ---- call lines
 
+abbrev SpellsAct : List (List ℕ) → Act × List (List ℕ) → Type 0
+SpellsAct words x = (words ≡ words_of_act x.0 ++ x.1) × ActFits x.0
+
+act_spelled : (name : List ℕ) (words : List (List ℕ)) (x : Act × List (List ℕ)) → act_named name words ≡ Some x → SpellsAct (name ∷ words) x
+act_spelled name words x e =
+    elim (chosen (bytes_eq name (codes "lock")) (Some (act.Lock, words)) _ (Some x) e) [
+      | inl lock ↦ subst (SpellsAct (name ∷ words)) (same_Some (act.Lock, words) x lock.1) (ap (λ (n : List ℕ). n ∷ words) (named name (codes "lock") lock.0), tt)
+      | inr other ↦
+          elim (chosen (bytes_eq name (codes "unlock")) (Some (act.Unlock, words)) _ (Some x) other.1) [
+            | inl unlock ↦ subst (SpellsAct (name ∷ words)) (same_Some (act.Unlock, words) x unlock.1) (ap (λ (n : List ℕ). n ∷ words) (named name (codes "unlock") unlock.0), tt)
+            | inr call ↦
+                let w = bind_some (word_of name) _ x call.1 in
+                let c = bind_some (call_with w.0 words) _ x w.2 in
+                let taken = call_takes name words w.0 c.0 w.1 c.1 in
+                subst (SpellsAct (name ∷ words)) (same_Some (act.Call c.0.0, c.0.1) x c.2) taken
+          ]
+    ]
+
+act_takes : (words : List (List ℕ)) (x : Act × List (List ℕ)) → act_at words ≡ Some x → SpellsAct words x
+unfolding act_at
+act_takes words x e =
+    let n = bind_some (first_word words) _ x e in
+    subst (λ (ws : List (List ℕ)). SpellsAct ws x) (sym (word_takes words n.0 n.1)) (act_spelled n.0.0 n.0.1 x n.2)
+
+act_again : (a : Act) → ActFits a → act_at (words_of_act a) ≡ Some (a, [])
+unfolding act_at
+act_again act.Lock fits = refl
+act_again act.Unlock fits = refl
+act_again (act.Call c) fits = call_again c fits
+
+act_whole : (a : Act) → ActFits a → AllByRecursion (IsWhole 32) (words_of_act a)
+act_whole act.Lock fits = (whole_by_test (codes "lock") refl, tt)
+act_whole act.Unlock fits = (whole_by_test (codes "unlock") refl, tt)
+act_whole (act.Call c) fits = said_whole (said c) fits
+
 pub line_takes : (words : List (List ℕ)) (line : Line) → line_of words ≡ Some line → (words ≡ line_words line) × LineFits line
 unfolding line_of
 line_takes words line e =
     let t = bind_some (natural_at 1 16 words) _ line e in
-    let c = bind_some (call_at t.0.1) _ line t.2 in
+    let a = bind_some (act_at t.0.1) _ line t.2 in
     let task = natural_at_takes 1 16 words t.0 t.1 in
-    let call = call_takes t.0.1 c.0 c.1 in
-    let whole = nothing_left c.0.1 (Task t.0.0 (act.Call c.0.0)) line c.2 in
+    let spelled = act_takes t.0.1 a.0 a.1 in
+    let whole = nothing_left a.0.1 (Task t.0.0 a.0.0) line a.2 in
     subst (λ (l : Line). (words ≡ line_words l) × LineFits l) whole.1
-    (task.0 ∙ onto (decimal t.0.0) _ _ (call.0 ∙ ap (λ (ws : List (List ℕ)). words_of_call c.0.0 ++ ws) whole.0 ∙ append-nil (words_of_call c.0.0)), (task.1, task.2, call.1))
+    (task.0 ∙ onto (decimal t.0.0) _ _ (spelled.0 ∙ ap (λ (ws : List (List ℕ)). words_of_act a.0.0 ++ ws) whole.0 ∙ append-nil (words_of_act a.0.0)), (task.1, task.2, spelled.1))
 
 pub line_again : (line : Line) → LineFits line → line_of (line_words line) ≡ Some line
 unfolding line_of
-line_again (Task task (act.Call c)) fits =
-    let call : call_at (words_of_call c) ≡ Some (c, []) = ap call_at (sym (append-nil (words_of_call c))) ∙ call_again c [] fits.2 in
-    rw (natural_at_again 1 16 task (words_of_call c) fits.0 fits.1 (lit< tt), call) refl
+line_again (Task task a) fits = rw (natural_at_again 1 16 task (words_of_act a) fits.0 fits.1 (lit< tt), act_again a fits.2) refl
 
 pub line_words_whole : (line : Line) → LineFits line → words_of (text_of_line line) ≡ line_words line
-line_words_whole (Task task (act.Call c)) fits =
+line_words_whole (Task task a) fits =
     let below : task ≤ 16 = fits.1 in
-    parts-join 32 (decimal task) (words_of_call c) (natural_whole task (omega arith), said_whole (said c) fits.2)
+    parts-join 32 (decimal task) (words_of_act a) (natural_whole task (omega arith), act_whole a fits.2)
 
 pub line_read : (text : List ℕ) (line : Line) → line_of (words_of text) ≡ Some line → (text ≡ text_of_line line) × LineFits line
 line_read text line e = let t = line_takes (words_of text) line e in (line_from_words text (line_words line) t.0, t.1)

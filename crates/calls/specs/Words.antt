@@ -7,6 +7,7 @@ use Rattle.calls.specs.declared.word.Word.{Word}
 use Rattle.calls.specs.declared.word.Word.TheVariants as word
 use Rattle.calls.specs.declared.call.Call.{Call}
 use Rattle.calls.specs.declared.call.Call.TheVariants as call
+use Rattle.calls.specs.declared.line.Act.{Act}
 use Rattle.calls.specs.declared.line.Act.TheVariants as act
 use Rattle.calls.specs.declared.line.Line.{Line}
 use Rattle.calls.specs.declared.line.Line.TheVariants.{Task}
@@ -112,9 +113,19 @@ words_of_call c = words_of_said (said c)
 abbrev pub CallFits : Call → Type 0
 CallFits c = SaidFits (said c)
 
--- a call line's words: the task and its call
+-- a call's words, or the word that takes or gives back the lock
+abbrev pub words_of_act : Act → List (List ℕ)
+words_of_act (act.Call c) = words_of_call c
+words_of_act act.Lock = codes "lock" ∷ []
+words_of_act act.Unlock = codes "unlock" ∷ []
+
+abbrev pub ActFits : Act → Type 0
+ActFits (act.Call c) = CallFits c
+ActFits _ = Unit {0}
+
+-- a call line's words: the task and what it does
 abbrev pub line_words : Line → List (List ℕ)
-line_words (Task task (act.Call c)) = decimal task ∷ words_of_call c
+line_words (Task task a) = decimal task ∷ words_of_act a
 
 -- a call line
 abbrev pub text_of_line : Line → List ℕ
@@ -122,7 +133,7 @@ text_of_line line = text_of_words (line_words line)
 
 -- the ranges of a line's numbers
 abbrev pub LineFits : Line → Type 0
-LineFits (Task task (act.Call c)) = (1 ≤ task) × (task ≤ 16) × CallFits c
+LineFits (Task task a) = (1 ≤ task) × (task ≤ 16) × ActFits a
 
 -- ---- reading
 
@@ -137,15 +148,21 @@ call_by (row name fields make) words = read_fields fields make words
 abbrev pub call_with : Word → List (List ℕ) → Option (Call × List (List ℕ))
 call_with w words = call_by (row_of w) words
 
-unfoldable pub call_at : List (List ℕ) → Option (Call × List (List ℕ))
-call_at words = do
+-- what a word of this name and the words after it say
+abbrev pub act_named : List ℕ → List (List ℕ) → Option (Act × List (List ℕ))
+act_named name words =
+    if bytes_eq name (codes "lock") then Some (act.Lock, words)
+    else if bytes_eq name (codes "unlock") then Some (act.Unlock, words)
+    else (word_of name >>= λ w. call_with w words >>= λ c. Some (act.Call c.0, c.1))
+
+unfoldable pub act_at : List (List ℕ) → Option (Act × List (List ℕ))
+act_at words = do
   name ← first_word words
-  w ← word_of name.0
-  call_with w name.1
+  act_named name.0 name.1
 
 -- the call line that the words say, all of them
 unfoldable pub line_of : List (List ℕ) → Option Line
 line_of words = do
   task ← natural_at 1 16 words
-  call ← call_at task.1
-  if length call.1 == 0 then Some (Task task.0 (act.Call call.0)) else None
+  a ← act_at task.1
+  if length a.1 == 0 then Some (Task task.0 a.0) else None

@@ -13,6 +13,6 @@ mod word;
 pub use call::Call;
 pub use config::Config;
 pub use entry::Entry;
-pub use line::{Act, Line};
+pub use line::{Act, Line, call_count};
 pub use reply::{Refusal, Reply};
 pub use word::Word;

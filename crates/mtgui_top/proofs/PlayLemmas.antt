@@ -1,52 +1,98 @@
 -- The calls of lines, one after the other.
-use Rattle.std.proofs.Common.{◌≡◌, ℕ, ◌+◌, ◌<◌, ◌≤◌, true, false, cond, List, ◌∷◌, ◌++◌, length, map, get_or, drop, refl, sym, ap, ◌∙◌, append_assoc, arith}
+use Rattle.std.proofs.Common.{◌≡◌, ℕ, ◌+◌, ◌<◌, ◌≤◌, Bool, true, false, cond, List, [], ◌∷◌, ◌++◌, length, get_or, drop, refl, sym, ap, ◌∙◌, append_assoc, arith}
+use Rattle.std.proofs.Math.Nat.{zero-add}
 use Rattle.std.proofs.lemmas.List.{at_drop_more, at_drop_all}
 use Rattle.calls.specs.declared.line.Line.{Line}
-use Rattle.calls.specs.Lines.{call_of, entry_of}
+use Rattle.calls.specs.declared.line.Act.TheVariants as act
+use Rattle.calls.specs.declared.line.Line.TheVariants.{Task}
+use Rattle.calls.specs.Lines.{is_call, call_count, entries_of}
 use Rattle.calls.specs.declared.config.Config.{Config}
 use Rattle.frame.specs.Pictures.{Picture}
 use Rattle.paint_ops.specs.Kinds.{Assets}
 use Rattle.script.specs.Scripts.{Script}
-use Rattle.journal.specs.Texts.{frame_text, reply_text, summary_text}
+use Rattle.journal.specs.Texts.{frame_text, summary_text}
 use Rattle.gui_core.specs.Setups.{Setup, setup_for, painter}
-use Rattle.gui_core.specs.States.{State, opening, step, state_after, is_refused}
+use Rattle.gui_core.specs.States.{State, opening, state_after}
 use Rattle.gui_core.proofs.CallerLemmas.{painting_moves_nothing}
-use Rattle.gui_core.specs.Promises.{changes_windows, window_calls}
+use Rattle.gui_core.specs.Promises.{window_calls}
 use Rattle.gui_core.specs.Machines.{Machine, starting}
-use Rattle.mtgui_top.specs.Machines.{LineDone}
-use Rattle.mtgui_top.specs.Playing.{replies, refused_count, after_lines, summary_of, paint_text}
+use Rattle.mtgui_top.specs.Changes.{may_change}
+use Rattle.mtgui_top.specs.Machines.{calls_at, LineDone, HasRoom}
+use Rattle.mtgui_top.specs.Playing.{state_past, answer_text, refused_at, replies, refused_count, after_lines, summary_of, paint_text}
 
--- the state after a line's call, with the setup that the core has from the start
-pub stepped : (setup : Setup) (old new : Machine) (line : Line) → old.setup ≡ setup → LineDone old line new → new.state ≡ (step setup old.state (entry_of line)).state
-stepped setup old new line same done = done.state ∙ ap (λ (k : Setup). (step k old.state (entry_of line)).state) same
+-- ---- one line
 
-replies-more : (setup : Setup) (s new : State) (lines : List Line) (i : ℕ) (d : Line) (last : List ℕ) → i < length lines → new ≡ (step setup s (entry_of (get_or lines i d))).state
-    → replies setup s (drop i lines) ++ last ≡ reply_text (call_of (get_or lines i d)) (step setup s (entry_of (get_or lines i d))).reply new.shown ++ (replies setup new (drop (i + 1) lines) ++ last)
+-- the state after a line, with the setup that the core has from the start
+pub stepped : (setup : Setup) (old new : Machine) (line : Line) → old.setup ≡ setup → LineDone old line new → new.state ≡ state_past setup old.state line
+stepped setup old new line same done = done.state ∙ ap (λ (k : Setup). state_past k old.state line) same
+
+-- the first line, and then the others
+pub after_first : (setup : Setup) (s : State) (line : Line) (lines : List Line) → after_lines setup s (line ∷ lines) ≡ after_lines setup (state_past setup s line) lines
+after_first setup s (Task task (act.Call call)) lines = refl
+after_first setup s (Task task act.Lock) lines = refl
+after_first setup s (Task task act.Unlock) lines = refl
+
+count_first : (line : Line) (lines : List Line) → call_count (line ∷ lines) ≡ calls_at line + call_count lines
+count_first line lines = by_test (is_call line) refl where
+  by_test : (b : Bool) → is_call line ≡ b → call_count (line ∷ lines) ≡ calls_at line + call_count lines
+  by_test true is = rw is (omega arith)
+  by_test false is = rw is (sym (zero-add (call_count lines)))
+
+-- ---- all lines
+
+replies-more : (setup : Setup) (s new : State) (lines : List Line) (i : ℕ) (d : Line) (last : List ℕ) → i < length lines → new ≡ state_past setup s (get_or lines i d)
+    → replies setup s (drop i lines) ++ last ≡ answer_text setup s (get_or lines i d) ++ (replies setup new (drop (i + 1) lines) ++ last)
 replies-more setup s new lines i d last lt e =
     let line = get_or lines i d in
-    let reply = (step setup s (entry_of line)).reply in
     ap (λ (text : List ℕ). text ++ last)
-    (at_drop_more (replies setup s) lines i d lt ∙ ap (λ (now : State). reply_text (call_of line) reply now.shown ++ replies setup now (drop (i + 1) lines)) (sym e))
-    ∙ append_assoc (reply_text (call_of line) reply new.shown) (replies setup new (drop (i + 1) lines)) last
+    (at_drop_more (replies setup s) lines i d lt ∙ ap (λ (now : State). answer_text setup s line ++ replies setup now (drop (i + 1) lines)) (sym e))
+    ∙ append_assoc (answer_text setup s line) (replies setup new (drop (i + 1) lines)) last
 
 -- the answer to the next line, and those that are left
 pub replies-step : (setup : Setup) (old new : Machine) (lines : List Line) (i : ℕ) (d : Line) (last : List ℕ) → i < length lines → old.setup ≡ setup → LineDone old (get_or lines i d) new
-    → replies setup old.state (drop i lines) ++ last ≡ reply_text (call_of (get_or lines i d)) (step old.setup old.state (entry_of (get_or lines i d))).reply new.state.shown ++ (replies setup new.state (drop (i + 1) lines) ++ last)
+    → replies setup old.state (drop i lines) ++ last ≡ answer_text old.setup old.state (get_or lines i d) ++ (replies setup new.state (drop (i + 1) lines) ++ last)
 replies-step setup old new lines i d last lt same done =
     let line = get_or lines i d in
     replies-more setup old.state new.state lines i d last lt (stepped setup old new line same done)
-    ∙ ap (λ (k : Setup). reply_text (call_of line) (step k old.state (entry_of line)).reply new.state.shown ++ (replies setup new.state (drop (i + 1) lines) ++ last)) (sym same)
+    ∙ ap (λ (k : Setup). answer_text k old.state line ++ (replies setup new.state (drop (i + 1) lines) ++ last)) (sym same)
 
-refused_count-more : (setup : Setup) (s new : State) (lines : List Line) (i : ℕ) (d : Line) → i < length lines → new ≡ (step setup s (entry_of (get_or lines i d))).state
-    → refused_count setup s (drop i lines) ≡ cond (is_refused (step setup s (entry_of (get_or lines i d))).reply) 1 0 + refused_count setup new (drop (i + 1) lines)
+refused_count-more : (setup : Setup) (s new : State) (lines : List Line) (i : ℕ) (d : Line) → i < length lines → new ≡ state_past setup s (get_or lines i d)
+    → refused_count setup s (drop i lines) ≡ refused_at setup s (get_or lines i d) + refused_count setup new (drop (i + 1) lines)
 refused_count-more setup s new lines i d lt e =
     at_drop_more (refused_count setup s) lines i d lt
-    ∙ ap (λ (now : State). cond (is_refused (step setup s (entry_of (get_or lines i d))).reply) 1 0 + refused_count setup now (drop (i + 1) lines)) (sym e)
+    ∙ ap (λ (now : State). refused_at setup s (get_or lines i d) + refused_count setup now (drop (i + 1) lines)) (sym e)
 
-pub after_lines-more : (setup : Setup) (s new : State) (lines : List Line) (i : ℕ) (d : Line) → i < length lines → new ≡ (step setup s (entry_of (get_or lines i d))).state
+pub after_lines-more : (setup : Setup) (s new : State) (lines : List Line) (i : ℕ) (d : Line) → i < length lines → new ≡ state_past setup s (get_or lines i d)
     → after_lines setup s (drop i lines) ≡ after_lines setup new (drop (i + 1) lines)
 after_lines-more setup s new lines i d lt e =
-    at_drop_more (after_lines setup s) lines i d lt ∙ ap (λ (now : State). after_lines setup now (drop (i + 1) lines)) (sym e)
+    at_drop_more (after_lines setup s) lines i d lt ∙ after_first setup s (get_or lines i d) (drop (i + 1) lines) ∙ ap (λ (now : State). after_lines setup now (drop (i + 1) lines)) (sym e)
+
+-- how many calls are left
+pub calls-more : (lines : List Line) (i : ℕ) (d : Line) → i < length lines → call_count (drop i lines) ≡ calls_at (get_or lines i d) + call_count (drop (i + 1) lines)
+calls-more lines i d lt = at_drop_more call_count lines i d lt ∙ count_first (get_or lines i d) (drop (i + 1) lines)
+
+-- there is room for the next line, and for those that are left after it
+pub room-more : (m : Machine) (lines : List Line) (i : ℕ) (d : Line) (most : ℕ) → i < length lines → m.made + call_count (drop i lines) ≤ call_count lines → call_count lines ≤ most → m.setup.config.calls ≡ most → HasRoom m (get_or lines i d)
+room-more m lines i d most lt few room same = let left = calls-more lines i d lt in omega (arith, left, few, room, same)
+
+pub made-more : (old new : Machine) (lines : List Line) (i : ℕ) (d : Line) (total : ℕ) → i < length lines → LineDone old (get_or lines i d) new → old.made + call_count (drop i lines) ≤ total → new.made + call_count (drop (i + 1) lines) ≤ total
+made-more old new lines i d total lt done few = let left = calls-more lines i d lt in let made = done.made in omega (arith, left, made, few)
+
+pub skipped-more : (m : Machine) (lines : List Line) (i total : ℕ) → i < length lines → m.made + call_count (drop i lines) ≤ total → m.made + call_count (drop (i + 1) lines) ≤ total
+skipped-more m lines i total lt few = let left = calls-more lines i (Task 0 act.Lock) lt in omega (arith, left, few)
+
+pub all-made : (old new : Machine) (lines : List Line) (i : ℕ) (d : Line) (total : ℕ) → i < length lines → LineDone old (get_or lines i d) new → old.made + call_count (drop i lines) ≡ total → new.made + call_count (drop (i + 1) lines) ≡ total
+all-made old new lines i d total lt done all = let left = calls-more lines i d lt in let made = done.made in omega (arith, left, made, all)
+
+-- a script asks for no more calls than it has lines
+pub few_calls : (lines : List Line) → length lines ≤ 400000 → call_count lines ≤ 400000
+few_calls lines few = let less = counted lines in omega (arith, less, few) where
+  counted : (lines : List Line) → call_count lines ≤ length lines
+  counted [] = omega arith
+  counted (line ∷ lines) = let first = count_first line lines in let one = at_most_one (is_call line) in let more = counted lines in omega (arith, first, one, more) where
+    at_most_one : (b : Bool) → cond b 1 0 ≤ 1
+    at_most_one true = omega arith
+    at_most_one false = omega arith
 
 pub replies-all : (setup : Setup) (s : State) (lines : List Line) (i : ℕ) (last : List ℕ) → length lines ≤ i → replies setup s (drop i lines) ++ last ≡ last
 replies-all setup s lines i last le = ap (λ (text : List ℕ). text ++ last) (at_drop_all (replies setup s) lines i le)
@@ -57,12 +103,12 @@ pub counted-more : (setup : Setup) (old new : Machine) (lines : List Line) (i : 
 counted-more setup old new lines i d total lt same done so_far =
     let line = get_or lines i d in
     let more = refused_count-more setup old.state new.state lines i d lt (stepped setup old new line same done) in
-    let one : new.refused ≡ old.refused + cond (is_refused (step setup old.state (entry_of line)).reply) 1 0 = done.refused ∙ ap (λ (k : Setup). old.refused + cond (is_refused (step k old.state (entry_of line)).reply) 1 0) same in
+    let one : new.refused ≡ old.refused + refused_at setup old.state line = done.refused ∙ ap (λ (k : Setup). old.refused + refused_at k old.state line) same in
     omega (arith, so_far, more, one)
 
 -- the summary after the last line
 pub summary-last : (setup : Setup) (s now : State) (lines : List Line) (i refused windows : ℕ) → length lines ≤ i → refused + refused_count setup now (drop i lines) ≡ refused_count setup s lines → after_lines setup now (drop i lines) ≡ after_lines setup s lines
-    → windows ≡ length now.windows → summary_text (length lines) refused 0 windows ≡ summary_of setup s lines
+    → windows ≡ length now.windows → summary_text (call_count lines) refused 0 windows ≡ summary_of setup s lines
 unfolding summary_of
 summary-last setup s now lines i refused windows le counted last is =
     let none : refused_count setup now (drop i lines) ≡ 0 = at_drop_all (refused_count setup now) lines i le in
@@ -74,20 +120,24 @@ summary-last setup s now lines i refused windows le counted last is =
 
 -- the state after those of the lines that are left
 abbrev pub after_window_calls : Setup → State → List Line → State
-after_window_calls setup s lines = state_after setup s (window_calls (map entry_of lines))
+after_window_calls setup s lines = state_after setup s (window_calls (entries_of lines))
 
-kept_call : (setup : Setup) (s : State) (line : Line) (lines : List Line) → changes_windows (entry_of line) ≡ true → after_window_calls setup s (line ∷ lines) ≡ after_window_calls setup (step setup s (entry_of line)).state lines
-kept_call setup s line lines e = rw e refl
+kept_call : (setup : Setup) (s : State) (line : Line) (lines : List Line) → may_change line ≡ true → after_window_calls setup s (line ∷ lines) ≡ after_window_calls setup (state_past setup s line) lines
+kept_call setup s (Task task (act.Call call)) lines e = rw e refl
+kept_call setup s (Task task act.Lock) lines e = absurd cc
+kept_call setup s (Task task act.Unlock) lines e = absurd cc
 
-left_out : (setup : Setup) (s : State) (line : Line) (lines : List Line) → changes_windows (entry_of line) ≡ false → after_window_calls setup s (line ∷ lines) ≡ after_window_calls setup s lines
-left_out setup s line lines e = rw e refl
+left_out : (setup : Setup) (s : State) (line : Line) (lines : List Line) → may_change line ≡ false → after_window_calls setup s (line ∷ lines) ≡ after_window_calls setup s lines
+left_out setup s (Task task (act.Call call)) lines e = rw e refl
+left_out setup s (Task task act.Lock) lines e = refl
+left_out setup s (Task task act.Unlock) lines e = refl
 
-pub window_call-more : (setup : Setup) (s new : State) (lines : List Line) (i : ℕ) (d : Line) → i < length lines → changes_windows (entry_of (get_or lines i d)) ≡ true → new ≡ (step setup s (entry_of (get_or lines i d))).state
+pub window_call-more : (setup : Setup) (s new : State) (lines : List Line) (i : ℕ) (d : Line) → i < length lines → may_change (get_or lines i d) ≡ true → new ≡ state_past setup s (get_or lines i d)
     → after_window_calls setup s (drop i lines) ≡ after_window_calls setup new (drop (i + 1) lines)
 window_call-more setup s new lines i d lt test e =
     at_drop_more (after_window_calls setup s) lines i d lt ∙ kept_call setup s (get_or lines i d) (drop (i + 1) lines) test ∙ ap (λ (now : State). after_window_calls setup now (drop (i + 1) lines)) (sym e)
 
-pub other_call-more : (setup : Setup) (s : State) (lines : List Line) (i : ℕ) (d : Line) → i < length lines → changes_windows (entry_of (get_or lines i d)) ≡ false
+pub other_call-more : (setup : Setup) (s : State) (lines : List Line) (i : ℕ) (d : Line) → i < length lines → may_change (get_or lines i d) ≡ false
     → after_window_calls setup s (drop i lines) ≡ after_window_calls setup s (drop (i + 1) lines)
 other_call-more setup s lines i d lt test =
     at_drop_more (after_window_calls setup s) lines i d lt ∙ left_out setup s (get_or lines i d) (drop (i + 1) lines) test
@@ -101,7 +151,7 @@ painted_text script assets config lines lent m n p a k l same opened setup state
     (is ∙ ap (λ (q : Setup). painter q n.state.windows) setup
     ∙ ap (λ (t : State). painter m.setup t.windows) state
     ∙ ap (λ (q : Machine). painter q.setup (after_window_calls q.setup q.state lent).windows) opened
-    ∙ painting_moves_nothing s (map entry_of lent)
+    ∙ painting_moves_nothing s (entries_of lent)
     ∙ ap (λ (ls : List Line). painter s (after_lines s (opening s) ls).windows) (same ∙ l)
     ∙ ap (λ (b : Assets). painter (setup_for b config) (after_lines (setup_for b config) (opening (setup_for b config)) script.lines).windows) a
     ∙ ap (λ (c : Config). painter (setup_for script.assets c) (after_lines (setup_for script.assets c) (opening (setup_for script.assets c)) script.lines).windows) k)

@@ -1,47 +1,46 @@
 -- What a play text has at a scan.
-use Rattle.std.proofs.Common.{◌≡◌, ℕ, List, [], ◌∷◌, ◌++◌, map, refl, sym, ap, ◌∙◌, append_assoc}
-use Rattle.calls.specs.declared.call.Call.{Call}
+use Rattle.std.proofs.Common.{◌≡◌, ℕ, List, [], ◌∷◌, ◌++◌, refl, sym, ap, ◌∙◌, append_assoc}
 use Rattle.calls.specs.declared.call.Call.TheVariants.{Scan}
-use Rattle.calls.specs.declared.entry.Entry.TheVariants as entry
 use Rattle.calls.specs.declared.line.Act.TheVariants as act
 use Rattle.calls.specs.declared.line.Line.{Line}
 use Rattle.calls.specs.declared.line.Line.TheVariants.{Task}
-use Rattle.calls.specs.Lines.{call_of, entry_of}
+use Rattle.calls.specs.Lines.{entries_of}
 use Rattle.script.specs.Scripts.{Script}
-use Rattle.journal.specs.Texts.{reply_text, frame_text}
+use Rattle.journal.specs.Texts.{frame_text}
 use Rattle.gui_core.specs.Setups.{Setup}
 use Rattle.gui_core.specs.States.{State, opening, step}
 use Rattle.gui_core.proofs.CallerLemmas.{quiet_is_painter}
-use Rattle.mtgui_top.specs.Playing.{setup_of, replies, summary_of, after_lines, play_text}
+use Rattle.mtgui_top.specs.Playing.{setup_of, state_past, answer_text, replies, summary_of, after_lines, play_text}
 use Rattle.mtgui_top.specs.Promises.{state_at, ScansShowPainter}
+use Rattle.mtgui_top.proofs.PlayLemmas.{after_first}
 
 replies-append : (setup : Setup) (s : State) (front rest : List Line) → replies setup s (front ++ rest) ≡ replies setup s front ++ replies setup (after_lines setup s front) rest
 replies-append setup s [] rest = refl
 replies-append setup s (line ∷ front) rest =
-    let now = step setup s (entry_of line) in
-    let text = reply_text (call_of line) now.reply now.state.shown in
-    ap (λ (after : List ℕ). text ++ after) (replies-append setup now.state front rest) ∙ sym (append_assoc text (replies setup now.state front) (replies setup (after_lines setup now.state front) rest))
+    let now : State = state_past setup s line in
+    let text : List ℕ = answer_text setup s line in
+    ap (λ (more : List ℕ). text ++ more) (replies-append setup now front rest ∙ ap (λ (t : State). replies setup now front ++ replies setup t rest) (sym (after_first setup s line front)))
+    ∙ sym (append_assoc text (replies setup now front) (replies setup (after_lines setup s (line ∷ front)) rest))
 
 -- a scan is answered by the shown picture, and changes nothing
-scan_replies : (setup : Setup) (s : State) (line : Line) (rest : List Line) → call_of line ≡ Scan → replies setup s (line ∷ rest) ≡ frame_text s.shown ++ replies setup s rest
+scan_replies : (setup : Setup) (s : State) (task : ℕ) (rest : List Line) → replies setup s (Task task (act.Call Scan) ∷ rest) ≡ frame_text s.shown ++ replies setup s rest
 unfolding step
-scan_replies setup s (Task task (act.Call call)) rest e =
-    ap (λ (c : Call). let now = step setup s (entry.Call task c) in reply_text c now.reply now.state.shown ++ replies setup now.state rest) e
+scan_replies setup s task rest = refl
 
-text_at : (script : Script) (front rest : List Line) (line : Line) → script.lines ≡ front ++ line ∷ rest → call_of line ≡ Scan
+text_at : (script : Script) (front rest : List Line) (task : ℕ) → script.lines ≡ front ++ Task task (act.Call Scan) ∷ rest
     → play_text script ≡ replies (setup_of script) (opening (setup_of script)) front ++ (frame_text (state_at script front).shown ++ (replies (setup_of script) (state_at script front) rest ++ summary_of (setup_of script) (opening (setup_of script)) script.lines))
-text_at script front rest line e scan =
+text_at script front rest task e =
     let setup = setup_of script in
     let s = state_at script front in
     let head = replies setup (opening setup) front in
     let last = summary_of setup (opening setup) script.lines in
     ap (λ (lines : List Line). replies setup (opening setup) lines ++ last) e
-    ∙ ap (λ (text : List ℕ). text ++ last) (replies-append setup (opening setup) front (line ∷ rest) ∙ ap (λ (text : List ℕ). head ++ text) (scan_replies setup s line rest scan))
+    ∙ ap (λ (text : List ℕ). text ++ last) (replies-append setup (opening setup) front (Task task (act.Call Scan) ∷ rest) ∙ ap (λ (text : List ℕ). head ++ text) (scan_replies setup s task rest))
     ∙ append_assoc head (frame_text s.shown ++ replies setup s rest) last
     ∙ ap (λ (text : List ℕ). head ++ text) (append_assoc (frame_text s.shown) (replies setup s rest) last)
 
 pub scans_show_painter : (script : Script) → ScansShowPainter script
 scans_show_painter script = record {
   text = text_at script;
-  picture = λ front none. quiet_is_painter (setup_of script) (map entry_of front) none;
+  picture = λ front none. quiet_is_painter (setup_of script) (entries_of front) none;
 }

@@ -1,3 +1,4 @@
+pub mod Changes
 pub mod Machines
 pub mod Playing
 pub mod Words

@@ -1,17 +1,24 @@
 -- The core while a script is played.
 use Rattle.std.specs.Prelude.{◌≡◌, ℕ, ◌+◌, ◌≤◌, if◌then◌else◌}
 use Rattle.calls.specs.declared.line.Line.{Line}
-use Rattle.calls.specs.Lines.{entry_of}
-use Rattle.gui_core.specs.States.{step, is_refused}
+use Rattle.calls.specs.Lines.{is_call}
 use Rattle.gui_core.specs.Machines.{Machine}
+use Rattle.mtgui_top.specs.Playing.{state_past, refused_at}
 
--- the call of a line was made
+-- how many calls a line asks for
+abbrev pub calls_at : Line → ℕ
+calls_at line = if is_call line then 1 else 0
+
+-- what the line asks for was done
 pub record LineDone (old : Machine) (line : Line) (new : Machine) : Type 0 where
   pub setup : new.setup ≡ old.setup
-  pub state : new.state ≡ (step old.setup old.state (entry_of line)).state
-  pub made : new.made ≡ old.made + 1
-  pub refused : new.refused
-      ≡ old.refused + (if is_refused (step old.setup old.state (entry_of line)).reply then 1 else 0)
+  pub state : new.state ≡ state_past old.setup old.state line
+  pub made : new.made ≡ old.made + calls_at line
+  pub refused : new.refused ≡ old.refused + refused_at old.setup old.state line
+
+-- there is room for what the line asks for
+abbrev pub HasRoom : Machine → Line → Type 0
+HasRoom m line = m.made + calls_at line ≤ m.setup.config.calls
 
 -- no call was made so far, and there is room for so many
 pub record IsFresh (m : Machine) (calls : ℕ) : Type 0 where

@@ -1,7 +1,10 @@
 -- What is written for a script, and for a file that is none.
-use Rattle.std.specs.Prelude.{ℕ, ◌+◌, if◌then◌else◌, List, [], ◌∷◌, ◌++◌, length, map, codes}
+use Rattle.std.specs.Prelude.{ℕ, ◌+◌, if◌then◌else◌, List, [], ◌∷◌, ◌++◌, length, codes}
 use Rattle.calls.specs.declared.line.Line.{Line}
-use Rattle.calls.specs.Lines.{call_of, entry_of}
+use Rattle.calls.specs.declared.entry.Entry.TheVariants as entry
+use Rattle.calls.specs.declared.line.Act.TheVariants as act
+use Rattle.calls.specs.declared.line.Line.TheVariants.{Task}
+use Rattle.calls.specs.Lines.{call_count, entries_of}
 use Rattle.script.specs.declared.fault.Reason.{Reason}
 use Rattle.script.specs.declared.fault.Reason.TheVariants as reason
 use Rattle.script.specs.declared.fault.ScriptFault.{ScriptFault}
@@ -12,28 +15,49 @@ use Rattle.gui_core.specs.States.{State, opening, step, state_after, is_refused}
 use Rattle.mtgui_top.specs.declared.command.Verb.{Verb}
 use Rattle.mtgui_top.specs.declared.command.Verb.TheVariants.{Play, Paint}
 
--- what the calls of lines are answered, one after the other
+-- ---- a line: a call, or a line on the lock, which has no answer and changes nothing
+
+abbrev pub state_past : Setup → State → Line → State
+state_past setup s (Task task (act.Call call)) = (step setup s (entry.Call task call)).state
+state_past setup s (Task task act.Lock) = s
+state_past setup s (Task task act.Unlock) = s
+
+-- what the line is answered
+abbrev pub answer_text : Setup → State → Line → List ℕ
+answer_text setup s (Task task (act.Call call)) =
+    let now = step setup s (entry.Call task call) in reply_text call now.reply now.state.shown
+answer_text setup s (Task task act.Lock) = []
+answer_text setup s (Task task act.Unlock) = []
+
+-- how many calls of the line are refused: one at most
+abbrev pub refused_at : Setup → State → Line → ℕ
+refused_at setup s (Task task (act.Call call)) =
+    if is_refused (step setup s (entry.Call task call)).reply then 1 else 0
+refused_at setup s (Task task act.Lock) = 0
+refused_at setup s (Task task act.Unlock) = 0
+
+-- ---- lines
+
+-- what lines are answered, one after the other
 abbrev pub replies : Setup → State → List Line → List ℕ
 replies setup s [] = []
 replies setup s (line ∷ lines) =
-    let now = step setup s (entry_of line) in
-    reply_text (call_of line) now.reply now.state.shown ++ replies setup now.state lines
+    answer_text setup s line ++ replies setup (state_past setup s line) lines
 
 -- how many of the calls are refused
 abbrev pub refused_count : Setup → State → List Line → ℕ
 refused_count setup s [] = 0
 refused_count setup s (line ∷ lines) =
-    let now = step setup s (entry_of line) in
-    (if is_refused now.reply then 1 else 0) + refused_count setup now.state lines
+    refused_at setup s line + refused_count setup (state_past setup s line) lines
 
 -- the state after the calls of lines
 abbrev pub after_lines : Setup → State → List Line → State
-after_lines setup s lines = state_after setup s (map entry_of lines)
+after_lines setup s lines = state_after setup s (entries_of lines)
 
 -- the last line: no picture is ever switched with one buffer
 unfoldable pub summary_of : Setup → State → List Line → List ℕ
 summary_of setup s lines =
-    summary_text (length lines) (refused_count setup s lines) 0
+    summary_text (call_count lines) (refused_count setup s lines) 0
     (length (after_lines setup s lines).windows)
 
 -- what the core is opened with for a script
@@ -66,6 +90,7 @@ reason_text reason.Block = codes "block"
 reason_text reason.Late = codes "late"
 reason_text reason.Asset = codes "asset"
 reason_text reason.Call = codes "call"
+reason_text reason.Lock = codes "lock"
 reason_text reason.Many = codes "many"
 reason_text reason.End = codes "end"
 

@@ -1,8 +1,9 @@
 -- What holds of a script's play text.
-use Rattle.std.specs.Prelude.{◌≡◌, List, ◌∷◌, ◌++◌}
+use Rattle.std.specs.Prelude.{◌≡◌, ℕ, List, ◌∷◌, ◌++◌}
 use Rattle.calls.specs.declared.call.Call.TheVariants.{Scan}
 use Rattle.calls.specs.declared.line.Line.{Line}
-use Rattle.calls.specs.Lines.{call_of}
+use Rattle.calls.specs.declared.line.Act.TheVariants as act
+use Rattle.calls.specs.declared.line.Line.TheVariants.{Task}
 use Rattle.script.specs.Scripts.{Script}
 use Rattle.journal.specs.Texts.{frame_text}
 use Rattle.gui_core.specs.Setups.{painter}
@@ -18,8 +19,8 @@ state_at script front = after_lines (setup_of script) (opening (setup_of script)
 -- before and what follows; and wherever no window waits to be painted the picture that is shown is
 -- the painter's of the windows.
 pub record ScansShowPainter (script : Script) : Type 0 where
-  pub text : (front rest : List Line) (line : Line) → script.lines ≡ front ++ line ∷ rest
-      → call_of line ≡ Scan
+  pub text : (front rest : List Line) (task : ℕ)
+      → script.lines ≡ front ++ Task task (act.Call Scan) ∷ rest
       → play_text script
       ≡ replies (setup_of script) (opening (setup_of script)) front
       ++ (frame_text (state_at script front).shown

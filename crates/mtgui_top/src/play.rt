@@ -5,13 +5,13 @@ ghost use Rattle.std.specs.Prelude.{◌≡◌, ◌↔◌, ◌⊎◌, ◌+◌, �
 ghost use Rattle.std.specs.List.{AllByRecursion};
 ghost use Rattle.outside.specs.Logs.{Wrote, FailedAt, Whole};
 ghost use Rattle.outside.specs.Files.{IsFile};
-ghost use Rattle.calls.specs.Lines.{call_of, entry_of, FitsItsTask};
+ghost use Rattle.calls.specs.Lines.{call_count, entries_of, FitsItsTask};
 ghost use Rattle.script.specs.Scripts.{Script, IsScript, IsReady};
-ghost use Rattle.journal.specs.Texts.{reply_text};
-ghost use Rattle.gui_core.specs.States.{step, state_after};
-ghost use Rattle.gui_core.specs.Promises.{changes_windows, window_calls};
-ghost use Rattle.mtgui_top.specs.Machines.{LineDone, IsFresh};
-ghost use Rattle.mtgui_top.specs.Playing.{replies, summary_of, play_text, paint_text, text_for, reason_text};
+ghost use Rattle.gui_core.specs.States.{state_after};
+ghost use Rattle.gui_core.specs.Promises.{window_calls};
+ghost use Rattle.mtgui_top.specs.Changes.{may_change};
+ghost use Rattle.mtgui_top.specs.Machines.{LineDone, HasRoom, IsFresh};
+ghost use Rattle.mtgui_top.specs.Playing.{answer_text, replies, summary_of, play_text, paint_text, text_for, reason_text};
 ghost use Rattle.mtgui_top.specs.Promises.{ScansShowPainter};
 ghost use Rattle.mtgui_top.specs.Words.{IsCommand};
 ghost use Rattle.mtgui_top.specs.Outcome.{Shows, ShowsFile, CommandEnds, WritesText, stop_of, IsStatus, IsComplete};
@@ -21,7 +21,7 @@ ghost use Rattle.mtgui_top.specs.declared.play.Stop.{Stop};
 ghost use Rattle.mtgui_top.specs.declared.play.Finding.{Finding};
 
 use crate::command::{Verb, command};
-use calls::{Act, Call, Line};
+use calls::{Act, Call, Line, call_count};
 use gui_core::Gui;
 use journal::{write_fault, write_frame, write_reply, write_summary};
 use outside::{ReadRefused, Sink, SinkFault, Store};
@@ -38,18 +38,21 @@ fn perform_line<K: Sink>(
     taken: &mut Vec<u8>,
 ) -> Result<(), SinkFault>
     requires fits { FitsItsTask line.now }
-    requires room { gui.old.made < gui.old.setup.config.calls }
+    requires room { HasRoom gui.old line.now }
     ensures gui { LineDone gui.old line.now gui.new }
     ensures wrote { Wrote result (K.log out.old) (K.log out.new)
-        (reply_text (call_of line.now)
-        (step gui.old.setup gui.old.state (entry_of line.now)).reply gui.new.state.shown) }
+        (answer_text gui.old.setup gui.old.state line.now) }
 {
-    let Line::Task {
-        task,
-        act: Act::Call(call),
-    } = line;
-    let reply = gui.apply(alloc, *task, call, taken);
-    write_reply(out, call, &reply, taken, gui.shown())
+    match line {
+        Line::Task {
+            task,
+            act: Act::Call(call),
+        } => {
+            let reply = gui.apply(alloc, *task, call, taken);
+            write_reply(out, call, &reply, taken, gui.shown())
+        }
+        _ => Ok(()),
+    }
 }
 
 /// Does what lines say and writes what they are answered, and the summary. The core was opened for
@@ -61,7 +64,7 @@ fn perform<K: Sink>(
     lines: &[Line],
 ) -> Result<(), SinkFault>
     requires fits { AllByRecursion FitsItsTask lines.now }
-    requires fresh { IsFresh gui.old (length lines.now) }
+    requires fresh { IsFresh gui.old (call_count lines.now) }
     ensures { Wrote result (K.log out.old) (K.log out.new)
         (replies gui.old.setup gui.old.state lines.now
         ++ summary_of gui.old.setup gui.old.state lines.now) }
@@ -72,7 +75,8 @@ fn perform<K: Sink>(
     }
     let mut windows = Stack::new();
     gui.windows(&mut windows);
-    write_summary(out, lines.len(), gui.refused() as usize, 0, windows.len())
+    let refused = gui.refused() as usize;
+    write_summary(out, call_count(lines), refused, 0, windows.len())
 }
 
 /// Why a command wasn't done to its end.
@@ -115,6 +119,7 @@ enum Finding {
     NoScript,
 }
 
+#[tactic(auto, using(crate::proofs::PlayLemmas::few_calls))]
 fn play_script<K: Sink>(alloc: Global, script: Script, out: &mut K) -> Result<(), Stop>
     requires { IsReady script }
     ensures { WritesText result (K.log out.old) (K.log out.new) (play_text script) }
@@ -131,39 +136,40 @@ fn play_script<K: Sink>(alloc: Global, script: Script, out: &mut K) -> Result<()
 
 /// Whether a line may change where windows are, or what they are.
 fn changes_windows(line: &Line) -> bool
-    ensures { result ≡ changes_windows (entry_of line.now) }
+    ensures { result ≡ may_change line.now }
 {
-    let Line::Task {
-        act: Act::Call(call),
-        ..
-    } = line;
-    match call {
-        Call::Exec | Call::Exec1 | Call::Scan => false,
+    match line {
+        Line::Task {
+            act: Act::Call(Call::Exec | Call::Exec1 | Call::Scan) | Act::Lock | Act::Unlock,
+            ..
+        } => false,
         _ => true,
     }
 }
 
-/// Makes a line's call.
+/// Makes a line's call, if it asks for one.
 fn make_call(alloc: Global, gui: &mut Gui, line: &Line, taken: &mut Vec<u8>)
     requires fits { FitsItsTask line.now }
-    requires room { gui.old.made < gui.old.setup.config.calls }
+    requires room { HasRoom gui.old line.now }
     ensures { LineDone gui.old line.now gui.new }
 {
-    let Line::Task {
+    if let Line::Task {
         task,
         act: Act::Call(call),
-    } = line;
-    gui.apply(alloc, *task, call, taken);
+    } = line
+    {
+        gui.apply(alloc, *task, call, taken);
+    }
 }
 
 /// Makes those calls of lines that may change windows. The core was opened for as many, and made
 /// none so far.
 fn make_window_calls(alloc: Global, gui: &mut Gui, lines: &[Line])
     requires fits { AllByRecursion FitsItsTask lines.now }
-    requires fresh { IsFresh gui.old (length lines.now) }
+    requires fresh { IsFresh gui.old (call_count lines.now) }
     ensures setup { gui.new.setup ≡ gui.old.setup }
     ensures state { gui.new.state
-        ≡ state_after gui.old.setup gui.old.state (window_calls (map entry_of lines.now)) }
+        ≡ state_after gui.old.setup gui.old.state (window_calls (entries_of lines.now)) }
 {
     let mut taken = Vec::new(alloc);
     for line in lines {
@@ -173,6 +179,7 @@ fn make_window_calls(alloc: Global, gui: &mut Gui, lines: &[Line])
     }
 }
 
+#[tactic(auto, using(crate::proofs::PlayLemmas::few_calls))]
 fn paint_script<K: Sink>(alloc: Global, script: Script, out: &mut K) -> Result<(), Stop>
     requires { IsReady script }
     ensures { WritesText result (K.log out.old) (K.log out.new) (paint_text script) }
@@ -211,6 +218,7 @@ fn reason_name(reason: Reason) -> &'static [u8]
         Reason::Late => b"late",
         Reason::Asset => b"asset",
         Reason::Call => b"call",
+        Reason::Lock => b"lock",
         Reason::Many => b"many",
         Reason::End => b"end",
     }

@@ -2,6 +2,8 @@
 use Rattle.std.proofs.Common.{ℕ, ◌<◌, ◌≤◌, List, [], ◌∷◌, ◌++◌, length, arith}
 use Rattle.std.specs.List.{AllByRecursion}
 use Rattle.std.proofs.lemmas.List.{length-append}
+use Rattle.glyph_font.specs.Fonts.{Font}
+use Rattle.bitmap.specs.Bitmaps.{Bitmap}
 use Rattle.paint_ops.specs.declared.op.Op.{Op}
 use Rattle.paint_ops.specs.declared.op.Op.TheVariants as op
 use Rattle.paint_ops.specs.Kinds.{Class, Assets}
@@ -59,6 +61,32 @@ class_more assets class sound few is =
       few_bitmaps = sound.few_bitmaps;
       few_strings = sound.few_strings;
       classes = one_more next assets.classes class (classes_there assets next assets.classes grows sound.classes) (class_there assets next class grows is);
+    }
+
+pub font_more : (assets : Assets) (font : Font) → IsSound assets → length assets.fonts ≤ 7 → IsSound (record assets { fonts = assets.fonts ++ font ∷ [] })
+font_more assets font sound few =
+    let next : Assets = record assets { fonts = assets.fonts ++ font ∷ [] } in
+    let count = length-append assets.fonts (font ∷ []) in
+    let grows : Grows assets next = record { fonts = omega arith; bitmaps = omega arith; strings = omega arith } in
+    record {
+      few_classes = sound.few_classes;
+      few_fonts = omega arith;
+      few_bitmaps = sound.few_bitmaps;
+      few_strings = sound.few_strings;
+      classes = classes_there assets next assets.classes grows sound.classes;
+    }
+
+pub bitmap_more : (assets : Assets) (bitmap : Bitmap) → IsSound assets → length assets.bitmaps ≤ 31 → IsSound (record assets { bitmaps = assets.bitmaps ++ bitmap ∷ [] })
+bitmap_more assets bitmap sound few =
+    let next : Assets = record assets { bitmaps = assets.bitmaps ++ bitmap ∷ [] } in
+    let count = length-append assets.bitmaps (bitmap ∷ []) in
+    let grows : Grows assets next = record { fonts = omega arith; bitmaps = omega arith; strings = omega arith } in
+    record {
+      few_classes = sound.few_classes;
+      few_fonts = sound.few_fonts;
+      few_bitmaps = omega arith;
+      few_strings = sound.few_strings;
+      classes = classes_there assets next assets.classes grows sound.classes;
     }
 
 pub string_more : (assets : Assets) (text : List ℕ) → IsSound assets → length assets.strings ≤ 255 → IsSound (record assets { strings = assets.strings ++ text ∷ [] })

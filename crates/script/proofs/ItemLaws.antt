@@ -11,14 +11,19 @@ use Rattle.spelling.specs.Words.{words_of, text_of_words, natural_in}
 use Rattle.spelling.specs.Fields.{Field, Values, texts_of, AreIn, is_word, are_fields, text_with}
 use Rattle.spelling.specs.Items.{is_comment}
 use Rattle.spelling.proofs.CallerLemmas.{no_natural_in, natural_in_again, words_with, text_same, Without, same_block, AreApart, one_list}
+use Rattle.glyph_font.specs.Fonts.{Font}
+use Rattle.glyph_font.specs.Texts.{font_lines}
+use Rattle.glyph_font.proofs.CallerLemmas as font_laws
+use Rattle.bitmap.specs.Bitmaps.{Bitmap}
+use Rattle.bitmap.specs.Texts.{AreLinesOf}
+use Rattle.bitmap.proofs.CallerLemmas as bitmap_laws
 use Rattle.paint_ops.specs.Kinds.{Assets}
 use Rattle.class_lines.specs.declared.line.ClassLine.{ClassLine}
-use Rattle.calls.specs.declared.line.Act.TheVariants as act
 use Rattle.calls.specs.declared.line.Line.{Line}
 use Rattle.calls.specs.declared.line.Line.TheVariants.{Task}
-use Rattle.calls.specs.Words.{text_of_line, words_of_call, LineFits}
+use Rattle.calls.specs.Words.{text_of_line, words_of_act, LineFits}
 use Rattle.calls.proofs.CallerLemmas.{line_spelled, line_words_whole}
-use Rattle.script.specs.Scripts.{screen_fields, desktop_fields, class_fields, class_text, string_text, Item, Title, Screen, Buffers, Desktop, StringOf, ClassOf, CallOf, Before, nothing, after, IsStringBlock, AreClassLines, IsClassBlock, Spells, AreItemsOf, Script, script_for, listing_of, IsScript}
+use Rattle.script.specs.Scripts.{screen_fields, desktop_fields, class_fields, class_text, string_text, font_fields, bitmap_fields, IsFontBlock, IsBitmapBlock, Item, Title, Screen, Buffers, Desktop, FontOf, BitmapOf, StringOf, ClassOf, CallOf, Before, nothing, after, IsStringBlock, AreClassLines, IsClassBlock, Spells, AreItemsOf, Script, script_for, listing_of, IsScript}
 use Rattle.script.proofs.StringLaws.{string_words, string_same}
 use Rattle.script.proofs.BodyLaws.{one_line, one_body, without_end}
 
@@ -37,10 +42,12 @@ tag_of_word w =
     if bytes_eq w (codes "screen") then 1 else
     if bytes_eq w (codes "buffers") then 2 else
     if bytes_eq w (codes "desktop") then 3 else
-    if bytes_eq w (codes "string") then 6 else 4
+    if bytes_eq w (codes "string") then 6 else
+    if bytes_eq w (codes "font") then 7 else
+    if bytes_eq w (codes "bitmap") then 8 else 4
 
 abbrev tag_of_words : List (List ℕ) → ℕ
-tag_of_words [] = 7
+tag_of_words [] = 9
 tag_of_words (w ∷ ws) = tag_of_word w
 
 abbrev tag : Item → ℕ
@@ -51,6 +58,8 @@ tag (Desktop colour) = 3
 tag (ClassOf back lines) = 4
 tag (CallOf l) = 5
 tag (StringOf text) = 6
+tag (FontOf font) = 7
+tag (BitmapOf bitmap) = 8
 
 -- the first line tells the kind
 pub record Opens (item : Item) (block : List (List ℕ)) : Type 0 where
@@ -63,7 +72,7 @@ pub record Opens (item : Item) (block : List (List ℕ)) : Type 0 where
 name_tag : (w : List ℕ) → 57 < get_or w 0 0 → natural_in 1 16 w ≡ None
 name_tag w other = no_natural_in 1 16 w other
 
-uncommented : (w : List ℕ) (ws : List (List ℕ)) → 0 < length w → 35 < get_or w 0 0 → is_comment (text_of_words (w ∷ ws)) ≡ false
+pub uncommented : (w : List ℕ) (ws : List (List ℕ)) → 0 < length w → 35 < get_or w 0 0 → is_comment (text_of_words (w ∷ ws)) ≡ false
 uncommented [] ws some other = absurd (omega arith)
 uncommented (b ∷ bs) [] some other = grind (arith, nat_tests)
 uncommented (b ∷ bs) (x ∷ xs) some other = grind (arith, nat_tests)
@@ -79,13 +88,13 @@ opens_string b text block is =
     record { line = string_text number text; more = []; is = is.spelled; known = ap tag_of_words (string_words number text is.counted) ∙ known; shown = uncommented (codes "string") (decimal number ∷ text ∷ []) (lit< tt) (lit< tt) }
 
 opens_call : (l : Line) (block : List (List ℕ)) → LineFits l → block ≡ text_of_line l ∷ [] → Opens (CallOf l) block
-opens_call (Task task (act.Call c)) block fits is =
+opens_call (Task task a) block fits is =
     let below : task ≤ 16 = fits.1 in
     let k = decimal_is_IsNumeral task (omega arith) in
     let d = digit_at (decimal task) 0 k.0.1 k.0.0 in
     let number = natural_in_again 1 16 task fits.0 fits.1 (lit< tt) in
     let known : tag_of_word (decimal task) ≡ 5 = rw number refl in
-    record { line = text_of_line (Task task (act.Call c)); more = []; is = is; known = ap tag_of_words (line_words_whole (Task task (act.Call c)) fits) ∙ known; shown = uncommented (decimal task) (words_of_call c) (omega arith) (omega arith) }
+    record { line = text_of_line (Task task a); more = []; is = is; known = ap tag_of_words (line_words_whole (Task task a) fits) ∙ known; shown = uncommented (decimal task) (words_of_act a) (omega arith) (omega arith) }
 
 pub opens : (b : Before) (item : Item) (block : List (List ℕ)) → Spells b item block → Opens item block
 opens b Title block is = record { line = codes "mtgui 1"; more = []; is = is.1; known = rw (name_tag (codes "mtgui") (lit< tt)) refl; shown = refl }
@@ -94,6 +103,9 @@ opens b Buffers block is = record { line = codes "buffers 1"; more = []; is = is
 opens b (Desktop colour) block is = opens_with (Desktop colour) block [] (codes "desktop") desktop_fields (colour, tt) refl refl is.1 (lit< tt) (lit< tt) (rw (name_tag (codes "desktop") (lit< tt)) refl) is.0.1
 opens b (StringOf text) block is = opens_string b text block is
 opens b (ClassOf back lines) block is = opens_with (ClassOf back lines) block (is.body ++ codes "end" ∷ []) (codes "class") class_fields (length b.said.assets.classes, (back, tt)) refl refl is.counted (lit< tt) (lit< tt) (rw (name_tag (codes "class") (lit< tt)) refl) is.spelled
+opens b (FontOf font) block is = opens_with (FontOf font) block (font_lines font) (codes "font") font_fields (length b.said.assets.fonts, (font.height, tt)) refl refl is.counted (lit< tt) (lit< tt) (rw (name_tag (codes "font") (lit< tt)) refl) is.spelled
+opens b (BitmapOf bitmap) block is =
+    opens_with (BitmapOf bitmap) block is.body (codes "bitmap") bitmap_fields (length b.said.assets.bitmaps, (bitmap.width, (bitmap.height, tt))) refl refl is.counted (lit< tt) (lit< tt) (rw (name_tag (codes "bitmap") (lit< tt)) refl) is.spelled
 opens b (CallOf l) block is = opens_call l block is.fits is.spelled
 
 -- ---- blocks
@@ -118,6 +130,32 @@ classes_apart b back other ls ms xs bs ys cs is also e =
     let lines : ls ≡ ms = one_body assets back ls ms is.body is.are there in
     (ap (λ (c : ℕ). ClassOf c ls) colour ∙ ap (ClassOf other) lines, parts.2)
 
+-- blocks that begin with the same line
+heads_and_rest : (xs bs ys cs body other : List (List ℕ)) (t u : List ℕ) → xs ≡ t ∷ body → bs ≡ u ∷ other → xs ++ ys ≡ bs ++ cs → (t ≡ u) × (body ++ ys ≡ other ++ cs)
+heads_and_rest xs bs ys cs body other t u is are e =
+    let same : t ∷ body ++ ys ≡ u ∷ other ++ cs = sym (ap (λ (ls : List (List ℕ)). ls ++ ys) is) ∙ e ∙ ap (λ (ls : List (List ℕ)). ls ++ cs) are in
+    (cc, cc)
+
+fonts_apart : (b : Before) (font other : Font) (xs bs ys cs : List (List ℕ)) → IsFontBlock b font xs → IsFontBlock b other bs → xs ++ ys ≡ bs ++ cs → (FontOf font ≡ FontOf other) × (ys ≡ cs)
+fonts_apart b font other xs bs ys cs is also e =
+    let number : ℕ = length b.said.assets.fonts in
+    let parts = heads_and_rest xs bs ys cs (font_lines font) (font_lines other) _ _ is.spelled also.spelled e in
+    let head = text_same (codes "font") font_fields (number, (font.height, tt)) (number, (other.height, tt)) refl refl is.counted also.counted parts.0 in
+    let height : font.height ≡ other.height = ap (λ (vs : Values font_fields). vs.1.0) head in
+    let lines = font_laws.apart font.height font other ys cs is.is refl also.is (sym height) parts.1 in
+    (ap FontOf lines.0, lines.1)
+
+bitmaps_apart : (b : Before) (bitmap other : Bitmap) (xs bs ys cs : List (List ℕ)) → IsBitmapBlock b bitmap xs → IsBitmapBlock b other bs → xs ++ ys ≡ bs ++ cs → (BitmapOf bitmap ≡ BitmapOf other) × (ys ≡ cs)
+bitmaps_apart b bitmap other xs bs ys cs is also e =
+    let number : ℕ = length b.said.assets.bitmaps in
+    let parts = heads_and_rest xs bs ys cs is.body also.body _ _ is.spelled also.spelled e in
+    let head = text_same (codes "bitmap") bitmap_fields (number, (bitmap.width, (bitmap.height, tt))) (number, (other.width, (other.height, tt))) refl refl is.counted also.counted parts.0 in
+    let width : other.width ≡ bitmap.width = sym (ap (λ (vs : Values bitmap_fields). vs.1.0) head) in
+    let height : other.height ≡ bitmap.height = sym (ap (λ (vs : Values bitmap_fields). vs.1.1.0) head) in
+    let are : AreLinesOf bitmap.width bitmap.height also.body other = subst (λ (h : ℕ). AreLinesOf bitmap.width h also.body other) height (subst (λ (w : ℕ). AreLinesOf w other.height also.body other) width also.are) in
+    let lines = bitmap_laws.apart bitmap.width bitmap.height is.body ys also.body cs bitmap other is.are are parts.1 in
+    (ap BitmapOf lines.0, lines.1)
+
 screens_apart : (w h w' h' : ℕ) → AreIn screen_fields (w, (h, tt)) → AreIn screen_fields (w', (h', tt)) → text_with (codes "screen") screen_fields (w, (h, tt)) ≡ text_with (codes "screen") screen_fields (w', (h', tt)) → Screen w h ≡ Screen w' h'
 screens_apart w h w' h' is also e = ap (λ (vs : Values screen_fields). Screen vs.0 vs.1.0) (text_same (codes "screen") screen_fields (w, (h, tt)) (w', (h', tt)) refl refl is also e)
 
@@ -139,6 +177,8 @@ apart_by b (StringOf text) (StringOf other) xs bs ys cs kind is also e =
     let parts = one_line xs bs ys cs _ _ is.spelled also.spelled e in
     (ap StringOf (string_same (length b.said.assets.strings) text other is.counted is.is also.is parts.0), parts.1)
 apart_by b (ClassOf back ls) (ClassOf other ms) xs bs ys cs kind is also e = classes_apart b back other ls ms xs bs ys cs is also e
+apart_by b (FontOf font) (FontOf other) xs bs ys cs kind is also e = fonts_apart b font other xs bs ys cs is also e
+apart_by b (BitmapOf bitmap) (BitmapOf other) xs bs ys cs kind is also e = bitmaps_apart b bitmap other xs bs ys cs is also e
 apart_by b (CallOf l) (CallOf m) xs bs ys cs kind is also e =
     let parts = one_line xs bs ys cs _ _ is.spelled also.spelled e in
     (ap CallOf (line_same l m is.fits also.fits parts.0), parts.1)

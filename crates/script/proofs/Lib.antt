@@ -2,6 +2,7 @@ pub mod CallerLemmas
 mod StringLaws
 mod AssetLemmas
 mod BodyLaws
+mod BlockLaws
 mod ItemLaws
 mod DraftLaws
 mod FrontLaws

@@ -12,7 +12,6 @@ use Rattle.spelling.specs.LineReading.{run, IsReading}
 use Rattle.spelling.proofs.CallerLemmas as lines
 use Rattle.spelling.proofs.CallerLemmas.{chosen}
 use Rattle.calls.specs.Actors.{is_task}
-use Rattle.calls.specs.declared.line.Act.TheVariants as act
 use Rattle.calls.specs.declared.line.Line.{Line}
 use Rattle.calls.specs.declared.line.Line.TheVariants.{Task}
 use Rattle.calls.specs.Lines.{FitsItsTask}
@@ -24,10 +23,10 @@ use Rattle.script.specs.declared.fault.Reason.TheVariants as reason
 use Rattle.script.specs.declared.fault.ScriptFault.{ScriptFault}
 use Rattle.script.specs.declared.fault.ScriptRefused.{ScriptRefused}
 use Rattle.script.specs.declared.fault.ScriptRefused.TheVariants as read_error
-use Rattle.script.specs.Scripts.{Item, Title, Screen, Buffers, Desktop, StringOf, ClassOf, CallOf, Before, nothing, after, after_items, Spells, AreItemsOf, listing_of, plain_class, class_of, Script, script_for, IsScript, IsNoScript, IsReady}
+use Rattle.script.specs.Scripts.{Item, Title, Screen, Buffers, Desktop, FontOf, BitmapOf, StringOf, ClassOf, CallOf, Before, nothing, after, after_items, Spells, AreItemsOf, listing_of, plain_class, class_of, Script, script_for, IsScript, IsNoScript, IsReady, are_free}
 use Rattle.script.specs.Faults.{Between, IsFront, Why, why_cut, IsFault, IsError}
 use Rattle.script.specs.Reading.{Draft, empty_draft, after_line, place_at, place_of, from_line, read_of, Reads, Says}
-use Rattle.script.proofs.AssetLemmas.{class_more, string_more}
+use Rattle.script.proofs.AssetLemmas.{class_more, font_more, bitmap_more, string_more}
 use Rattle.script.proofs.BodyLaws.{class_sound}
 use Rattle.script.proofs.ItemLaws.{one_script}
 use Rattle.script.proofs.DraftLaws.{HasItems, StandsIn, front_read, printable_read, read_stands}
@@ -107,6 +106,24 @@ item_good (StringOf text) b block is good = record {
   few_lines = good.few_lines;
   lines = good.lines;
 }
+item_good (FontOf font) b block is good = record {
+  wide = good.wide;
+  high = good.high;
+  early = good.early;
+  some = good.some;
+  assets = font_more b.said.assets font good.assets is.counted.0.1;
+  few_lines = good.few_lines;
+  lines = good.lines;
+}
+item_good (BitmapOf bitmap) b block is good = record {
+  wide = good.wide;
+  high = good.high;
+  early = good.early;
+  some = good.some;
+  assets = bitmap_more b.said.assets bitmap good.assets is.counted.0.1;
+  few_lines = good.few_lines;
+  lines = good.lines;
+}
 item_good (ClassOf back lines) b block is good =
     let below = is.counted.0.1 in
     let count = length-append b.said.assets.classes (class_of back lines ∷ []) in
@@ -148,7 +165,7 @@ task_fits : (task : ℕ) → 1 ≤ task → task ≤ 16 → is_task task ≡ tru
 task_fits task some few = grind (arith, nat_tests)
 
 line_fits : (line : Line) → LineFits line → FitsItsTask line
-line_fits (Task task (act.Call c)) fits = task_fits task fits.0 fits.1
+line_fits (Task task a) fits = task_fits task fits.0 fits.1
 
 lines_fit : (ls : List Line) → AllByRecursion LineFits ls → AllByRecursion FitsItsTask ls
 lines_fit [] fits = tt
@@ -173,23 +190,29 @@ script_ready file s is = subst IsReady (sym is.is) (ready is.items (lines_of fil
 
 -- ---- what reading says
 
--- where the file may end, it is whole
-may_end : (s : Stage) (d : Draft) (xs : List (List ℕ)) → StandsIn s d xs → why_cut (place_at s d) ≡ None → HasItems 4 d xs
+-- where the file may end, it is whole, and no lock is open
+may_end : (s : Stage) (d : Draft) (xs : List (List ℕ)) → StandsIn s d xs → why_cut (place_at s d) ≡ None → HasItems 4 d xs × (are_free d.locks ≡ true)
 may_end stage.Title d xs stands none = absurd cc
 may_end stage.Screen d xs stands none = absurd cc
 may_end stage.Buffers d xs stands none = absurd cc
 may_end stage.Desktop d xs stands none = absurd cc
-may_end stage.Body d xs stands none = stands
-may_end stage.Block d xs stands none = absurd cc
+may_end stage.Body d xs stands none =
+    elim (chosen (are_free d.locks) None (Some reason.End) None none) [
+      | inl free ↦ (stands, free.0)
+      | inr held ↦ absurd (cc (held.1))
+    ]
+may_end (stage.Block c) d xs stands none = absurd cc
 
 script_of : (file : List ℕ) (d : Draft) → length file ≤ 100663296 → run after_line empty_draft (lines_of file) ≡ Ok d → why_cut (place_of d) ≡ None → IsScript file (script_for d.said)
 script_of file d short read none =
-    let has = may_end d.stage d (lines_of file) (read_stands d (lines_of file) read) none in
+    let end = may_end d.stage d (lines_of file) (read_stands d (lines_of file) read) none in
+    let has = end.0 in
     record {
       items = has.items;
       printable = printable_read empty_draft d (lines_of file) read;
       spelled = has.spelled;
       header = ap (λ (b : Before). b.header) has.before;
+      free = ap (λ (b : Before). are_free b.locks) has.before ∙ end.1;
       short = short;
       is = ap (λ (b : Before). script_for b.said) (sym has.before);
     }
@@ -222,13 +245,13 @@ file_says file = by_length file (leb (length file) 100663296) refl
 front_of : (file : List ℕ) (s : Script) (is : IsScript file s) → IsFront (lines_of file) (Between (after_items is.items))
 front_of file s is = (is.printable, record { items = is.items; spelled = is.spelled; before = refl })
 
-ends : (b : Before) → b.header ≡ 4 → why_cut (Between b) ≡ None
-ends b header = rw header refl
+ends : (b : Before) → b.header ≡ 4 → are_free b.locks ≡ true → why_cut (Between b) ≡ None
+ends b header free = rw (header, free) refl
 
 pub no_script_with_fault : (file : List ℕ) (fault : ScriptFault) → IsFault file fault → IsNoScript file
 no_script_with_fault file fault (inl long) s is = let short = is.short in let large = long.0 in absurd (omega arith)
 no_script_with_fault file fault (inr wrong) s is =
-    lines.not_both after_line empty_draft place_of IsFront Why why_cut reading (lines_of file) (Between (after_items is.items)) fault.line fault.why (front_of file s is) (ends (after_items is.items) is.header) wrong.1
+    lines.not_both after_line empty_draft place_of IsFront Why why_cut reading (lines_of file) (Between (after_items is.items)) fault.line fault.why (front_of file s is) (ends (after_items is.items) is.header is.free) wrong.1
 
 fault_by : (file : List ℕ) (r : Result Draft (ℕ × Reason)) → Describes file r → IsNoScript file → (fault : ScriptFault) × IsFault file fault
 fault_by file (Ok d) is none = absurd (none (script_for d.said) is)
@@ -274,11 +297,11 @@ only_script file (Ok t) s h is = one_script file t s (found file t h) is
 only_script file (Err read_error.Memory) s h is = refl
 only_script file (Err (read_error.Fault fault)) s h is = absurd (no_script_with_fault file fault (subst (Describes file) h (file_says file)) s is)
 
--- where all lines were read, outside a block, the draft is a script's
-pub whole_ready : (file rest : List ℕ) (n : ℕ) (d : Draft) → length rest ≡ 0 → d.stage ≡ stage.Body → from_line n d (lines_of rest) ≡ read_of file → length d.said.lines ≤ 400000
-whole_ready file rest n d empty at read =
+-- where all lines were read, outside a block and with no open lock, the draft is a script's
+pub whole_ready : (file rest : List ℕ) (n : ℕ) (d : Draft) → length rest ≡ 0 → d.stage ≡ stage.Body → are_free d.locks ≡ true → from_line n d (lines_of rest) ≡ read_of file → length d.said.lines ≤ 400000
+whole_ready file rest n d empty at free read =
     let none : lines_of rest ≡ [] = ap lines_of (nil_from_length rest empty) in
-    let cut : why_cut (place_of d) ≡ None = ap (λ (s : Stage). why_cut (place_at s d)) at in
+    let cut : why_cut (place_of d) ≡ None = ap (λ (s : Stage). why_cut (place_at s d)) at ∙ rw free refl in
     let all : read_of file ≡ Ok d = sym read ∙ ap (from_line n d) none ∙ ended n d (why_cut (place_of d)) cut in
     (script_ready file (script_for d.said) (subst (Describes file) all (file_says file))).few_lines
   where

@@ -1,11 +1,11 @@
 -- Why a draft doesn't take a line: the first reason that may be held against it.
-use Rattle.std.proofs.Common.{◌≡◌, ℕ, ◌<◌, ◌≤◌, Bool, true, false, cond, ◌&&◌, ◌||◌, eqb, ltb, List, [], ◌∷◌, length, get_or, Option, Some, None, Ok, Err, refl, sym, ap, subst, ◌∙◌, inl, inr, arith, lit<}
+use Rattle.std.proofs.Common.{◌≡◌, Result, ℕ, ◌<◌, ◌≤◌, Bool, true, false, cond, ◌&&◌, ◌||◌, eqb, ltb, List, [], ◌∷◌, length, get_or, Option, Some, None, Ok, Err, refl, sym, ap, subst, ◌∙◌, inl, inr, arith, lit<}
 use Rattle.std.specs.Prelude.{is_some, bytes_eq, codes}
 use Rattle.std.specs.Fmt.{decimal, digits}
 use Rattle.std.proofs.Math.Bool.{or-false}
 use Rattle.std.proofs.lemmas.Bool.{cases_Bool, and_parts}
 use Rattle.std.proofs.lemmas.Bool.Decides.{nat_tests}
-use Rattle.std.proofs.lemmas.Option.{none-some}
+use Rattle.std.proofs.lemmas.Option.{none-some, same_Some}
 use Rattle.spelling.specs.Parts.{is_printable}
 use Rattle.spelling.specs.Words.{words_of, natural_in}
 use Rattle.spelling.specs.Fields.{Values}
@@ -13,24 +13,28 @@ use Rattle.spelling.specs.Items.{is_comment}
 use Rattle.spelling.proofs.CallerLemmas.{chosen, named, same_name, no_natural_in, natural_in_again, one_first}
 use Rattle.calls.specs.declared.call.Call.{Call}
 use Rattle.calls.specs.declared.call.Call.TheVariants as call
-use Rattle.class_lines.specs.declared.line.ClassLine.{ClassLine}
-use Rattle.class_lines.specs.Words.{class_line_of}
+use Rattle.calls.specs.declared.line.Act.{Act}
 use Rattle.calls.specs.declared.line.Act.TheVariants as act
 use Rattle.calls.specs.declared.line.Line.{Line}
 use Rattle.calls.specs.declared.line.Line.TheVariants.{Task}
-use Rattle.calls.specs.Words.{name_of_word, line_of, line_words, words_of_call, LineFits}
+use Rattle.calls.specs.Words.{name_of_word, line_of, line_words, words_of_call, words_of_act, LineFits}
 use Rattle.calls.proofs.CallerLemmas.{line_words_whole, line_read, line_spelled}
+use Rattle.glyph_font.specs.Reading as fonts
+use Rattle.bitmap.specs.Reading as bitmaps
+use Rattle.script.specs.declared.draft.Block.{Block}
+use Rattle.script.specs.declared.draft.Block.TheVariants as block
 use Rattle.script.specs.declared.draft.Stage.{Stage}
 use Rattle.script.specs.declared.draft.Stage.TheVariants as stage
 use Rattle.script.specs.declared.fault.Reason.{Reason}
 use Rattle.script.specs.declared.fault.Reason.TheVariants as reason
-use Rattle.script.specs.Fields.{class_in, string_in}
+use Rattle.script.specs.Fields.{class_in, font_in, bitmap_in, string_in}
 use Rattle.script.specs.Later.{is_one_of, begins_with_one_of, asset_words, later_words, later_calls, is_later_class, is_later_call}
-use Rattle.script.specs.Scripts.{Before, class_fields, with_string, with_line, class_with, may_have}
-use Rattle.script.specs.Faults.{Place, Between, InClass, is_later, is_later_in_header, is_later_elsewhere, IsCallLine, opens_asset, Holds, rank, Why}
-use Rattle.script.specs.Reading.{Draft, after_value, after_title, after_screen, after_buffers, after_desktop, after_block, after_class, after_string, after_early, after_asset, after_other, after_call, after_body, after_words, after_line, with_screen, with_colour, ended, after_class_line, opened, before_at, place_at, place_of, header_reason, call_reason}
+use Rattle.script.specs.Scripts.{Before, class_fields, font_fields, bitmap_fields, plain_class, with_string, may_do}
+use Rattle.script.specs.Faults.{Place, Between, InBlock, is_later, is_later_in_header, is_later_elsewhere, IsCallLine, IsBarred, opens_asset, Holds, rank, Why}
+use Rattle.script.specs.Reading.{Draft, after_value, after_title, after_screen, after_buffers, after_desktop, after_block, after_class, after_string, after_early, after_asset, after_other, after_call, after_body, after_words, after_line, with_screen, with_colour, after_font, after_bitmap, gone_on, block_after, takes_comments, opened, before_at, place_at, place_of, header_reason, call_reason, closed, with_call}
 use Rattle.script.specs.Fields.{screen_in, desktop_in}
-use Rattle.script.proofs.DraftLaws.{at_odds, string_word}
+use Rattle.script.proofs.BlockLaws.{block_reason}
+use Rattle.script.proofs.DraftLaws.{at_odds, asset_word}
 
 -- ---- forms that are built
 
@@ -44,7 +48,7 @@ not_named n name some few first =
 task_is_built : (n : ℕ) → 1 ≤ n → n ≤ 16 → is_one_of later_words (decimal n) ≡ false
 unfolding is_one_of later_words
 task_is_built n some few =
-    rw (not_named n (codes "font") some few (lit< tt), not_named n (codes "bitmap") some few (lit< tt), not_named n (codes "display") some few (lit< tt), not_named n (codes "viewer") some few (lit< tt), not_named n (codes "done") some few (lit< tt)) refl
+    rw (not_named n (codes "display") some few (lit< tt), not_named n (codes "viewer") some few (lit< tt), not_named n (codes "done") some few (lit< tt)) refl
 
 -- no word of the table is among those that aren't built
 call_is_built : (c : Call) → is_later_call (words_of_call c) ≡ false
@@ -52,11 +56,14 @@ unfolding is_one_of later_calls name_of_word digits
 call_is_built call.Exec = refl
 call_is_built c = refl
 
+act_is_built : (a : Act) → is_later_call (words_of_act a) ≡ false
+unfolding is_one_of later_calls
+act_is_built act.Lock = refl
+act_is_built act.Unlock = refl
+act_is_built (act.Call c) = call_is_built c
+
 class_is_no_task : natural_in 1 16 (codes "class") ≡ None
 class_is_no_task = no_natural_in 1 16 (codes "class") (lit< tt)
-
-string_is_no_task : natural_in 1 16 (codes "string") ≡ None
-string_is_no_task = no_natural_in 1 16 (codes "string") (lit< tt)
 
 not_class : (w : List ℕ) → bytes_eq (codes "class") w ≡ false → bytes_eq w (codes "class") ≡ false
 not_class w other =
@@ -70,14 +77,14 @@ task_is_no_class task some few = not_class (decimal task) (not_named task (codes
 
 task_is_no_asset : (task : ℕ) → 1 ≤ task → task ≤ 16 → is_one_of asset_words (decimal task) ≡ false
 unfolding is_one_of asset_words
-task_is_no_asset task some few = rw (not_named task (codes "string") some few (lit< tt), not_named task (codes "class") some few (lit< tt)) refl
+task_is_no_asset task some few = rw (not_named task (codes "string") some few (lit< tt), not_named task (codes "class") some few (lit< tt), not_named task (codes "font") some few (lit< tt), not_named task (codes "bitmap") some few (lit< tt)) refl
 
 words_are_built : (l : Line) → LineFits l → is_later_elsewhere (line_words l) ≡ false
-words_are_built (Task task (act.Call c)) fits =
-    rw (task_is_built task fits.0 fits.1, task_is_no_class task fits.0 fits.1, natural_in_again 1 16 task fits.0 fits.1 (lit< tt), call_is_built c) refl
+words_are_built (Task task a) fits =
+    rw (task_is_built task fits.0 fits.1, task_is_no_class task fits.0 fits.1, natural_in_again 1 16 task fits.0 fits.1 (lit< tt), act_is_built a) refl
 
 words_open_no_asset : (l : Line) → LineFits l → begins_with_one_of asset_words (line_words l) ≡ false
-words_open_no_asset (Task task (act.Call c)) fits = task_is_no_asset task fits.0 fits.1
+words_open_no_asset (Task task a) fits = task_is_no_asset task fits.0 fits.1
 
 -- a call line is of a built form, and opens no asset
 line_is_built : (text : List ℕ) (l : Line) → line_of (words_of text) ≡ Some l → is_later_elsewhere (words_of text) ≡ false
@@ -94,18 +101,27 @@ class_word_is_built : is_one_of later_words (codes "class") ≡ false
 unfolding is_one_of later_words
 class_word_is_built = refl
 
-string_word_is_built : is_one_of later_words (codes "string") ≡ false
-unfolding is_one_of later_words
-string_word_is_built = refl
-
 class_later : (fields : List (List ℕ)) → is_later_class fields ≡ true → is_later_elsewhere (codes "class" ∷ fields) ≡ true
 class_later fields later = rw (class_word_is_built, later) refl
 
 class_built : (fields : List (List ℕ)) → is_later_class fields ≡ false → is_later_elsewhere (codes "class" ∷ fields) ≡ false
 class_built fields built = rw (class_word_is_built, built, class_is_no_task) refl
 
-string_built : (fields : List (List ℕ)) → is_later_elsewhere (codes "string" ∷ fields) ≡ false
-string_built fields = rw (string_word_is_built, string_is_no_task) refl
+-- a word that no task, no class and no form that isn't built begins with
+word_built : (name : List ℕ) (fields : List (List ℕ)) → is_one_of later_words name ≡ false → bytes_eq name (codes "class") ≡ false → natural_in 1 16 name ≡ None → is_later_elsewhere (name ∷ fields) ≡ false
+word_built name fields built class task = rw (built, class, task) refl
+
+string_word_is_built : is_one_of later_words (codes "string") ≡ false
+unfolding is_one_of later_words
+string_word_is_built = refl
+
+font_word_is_built : is_one_of later_words (codes "font") ≡ false
+unfolding is_one_of later_words
+font_word_is_built = refl
+
+bitmap_word_is_built : is_one_of later_words (codes "bitmap") ≡ false
+unfolding is_one_of later_words
+bitmap_word_is_built = refl
 
 -- what an asset's words are
 asset_later : (first : List ℕ) (words : List (List ℕ)) → (bytes_eq first (codes "class") && is_later_class words) ≡ true → is_later_elsewhere (first ∷ words) ≡ true
@@ -115,11 +131,14 @@ asset_later first words is =
 
 asset_built : (first : List ℕ) (words : List (List ℕ)) → is_one_of asset_words first ≡ true → (bytes_eq first (codes "class") && is_later_class words) ≡ false → is_later_elsewhere (first ∷ words) ≡ false
 asset_built first words asset is =
-    elim (cases_Bool (bytes_eq first (codes "class"))) [
-      | inl class ↦
-          let built : is_later_class words ≡ false = sym (ap (λ (b : Bool). b && is_later_class words) class) ∙ is in
-          ap (λ (w : List ℕ). is_later_elsewhere (w ∷ words)) (named first (codes "class") class) ∙ class_built words built
-      | inr other ↦ ap (λ (w : List ℕ). is_later_elsewhere (w ∷ words)) (string_word first asset other) ∙ string_built words
+    let as_word : (name : List ℕ) → name ≡ first → is_later_elsewhere (name ∷ words) ≡ false → is_later_elsewhere (first ∷ words) ≡ false = λ name same built. ap (λ (w : List ℕ). is_later_elsewhere (w ∷ words)) (sym same) ∙ built in
+    elim (asset_word first asset) [
+      | inl string ↦ as_word (codes "string") string (word_built (codes "string") words string_word_is_built refl (no_natural_in 1 16 (codes "string") (lit< tt)))
+      | inr (inl class) ↦
+          let test : bytes_eq first (codes "class") ≡ true = ap (λ (w : List ℕ). bytes_eq w (codes "class")) (sym class) ∙ same_name (codes "class") in
+          as_word (codes "class") class (class_built words (sym (ap (λ (b : Bool). b && is_later_class words) test) ∙ is))
+      | inr (inr (inl font)) ↦ as_word (codes "font") font (word_built (codes "font") words font_word_is_built refl (no_natural_in 1 16 (codes "font") (lit< tt)))
+      | inr (inr (inr bitmap)) ↦ as_word (codes "bitmap") bitmap (word_built (codes "bitmap") words bitmap_word_is_built refl (no_natural_in 1 16 (codes "bitmap") (lit< tt)))
     ]
 
 -- ---- the first reason at each place
@@ -129,8 +148,8 @@ ascii_first (Between b) line bad = (bad, earlier) where
   earlier : (e : Reason) → rank e < 1 → Holds (Between b) line e → ⊥
   earlier reason.TooLarge less h = h
   earlier e less h = absurd (omega arith)
-ascii_first InClass line bad = (bad, earlier) where
-  earlier : (e : Reason) → rank e < 1 → Holds InClass line e → ⊥
+ascii_first InBlock line bad = (bad, earlier) where
+  earlier : (e : Reason) → rank e < 1 → Holds InBlock line e → ⊥
   earlier reason.TooLarge less h = h
   earlier e less h = absurd (omega arith)
 
@@ -140,11 +159,11 @@ later_first (Between b) line printable later = (later, earlier) where
   earlier reason.TooLarge less h = h
   earlier reason.Ascii less h = at_odds (is_printable line) printable h
   earlier e less h = absurd (omega arith)
-later_first InClass line printable later = absurd (cc later)
+later_first InBlock line printable later = absurd (cc later)
 
-block_first : (line : List ℕ) → is_printable line ≡ true → Why InClass line reason.Block
+block_first : (line : List ℕ) → is_printable line ≡ true → Why InBlock line reason.Block
 block_first line printable = (tt, earlier) where
-  earlier : (e : Reason) → rank e < 4 → Holds InClass line e → ⊥
+  earlier : (e : Reason) → rank e < 4 → Holds InBlock line e → ⊥
   earlier reason.TooLarge less h = h
   earlier reason.Ascii less h = at_odds (is_printable line) printable h
   earlier reason.Later less h = absurd (cc h)
@@ -183,28 +202,42 @@ module _ (b : Before) (line : List ℕ) (printable : is_printable line ≡ true)
     earlier e less h = absurd (omega arith)
 
   call_first : opens_asset line ≡ false → (IsCallLine line → ⊥) → Why (Between b) line reason.Call
-  call_first closed none = ((header, none), earlier) where
+  call_first no_asset none = ((header, none), earlier) where
     earlier : (e : Reason) → rank e < 7 → Holds (Between b) line e → ⊥
     earlier reason.TooLarge less h = h
     earlier reason.Ascii less h = at_odds (is_printable line) printable h
     earlier reason.Later less h = at_odds (is_later (Between b) line) h built
     earlier reason.Header less h = absurd (omega (arith, h, header))
     earlier reason.Block less h = h
-    earlier reason.Late less h = at_odds (opens_asset line) h.1 closed
-    earlier reason.Asset less h = at_odds (opens_asset line) h.1 closed
+    earlier reason.Late less h = at_odds (opens_asset line) h.1 no_asset
+    earlier reason.Asset less h = at_odds (opens_asset line) h.1 no_asset
     earlier e less h = absurd (omega arith)
 
-  many_first : opens_asset line ≡ false → IsCallLine line → Why (Between b) line reason.Many
-  many_first closed is = ((header, is), earlier) where
+  lock_first : opens_asset line ≡ false → IsCallLine line → IsBarred b.locks line → Why (Between b) line reason.Lock
+  lock_first none is barred = ((header, barred), earlier) where
     earlier : (e : Reason) → rank e < 8 → Holds (Between b) line e → ⊥
     earlier reason.TooLarge less h = h
     earlier reason.Ascii less h = at_odds (is_printable line) printable h
     earlier reason.Later less h = at_odds (is_later (Between b) line) h built
     earlier reason.Header less h = absurd (omega (arith, h, header))
     earlier reason.Block less h = h
-    earlier reason.Late less h = at_odds (opens_asset line) h.1 closed
-    earlier reason.Asset less h = at_odds (opens_asset line) h.1 closed
+    earlier reason.Late less h = at_odds (opens_asset line) h.1 none
+    earlier reason.Asset less h = at_odds (opens_asset line) h.1 none
     earlier reason.Call less h = h.1 is
+    earlier e less h = absurd (omega arith)
+
+  many_first : opens_asset line ≡ false → IsCallLine line → (IsBarred b.locks line → ⊥) → Why (Between b) line reason.Many
+  many_first none is free = ((header, is), earlier) where
+    earlier : (e : Reason) → rank e < 9 → Holds (Between b) line e → ⊥
+    earlier reason.TooLarge less h = h
+    earlier reason.Ascii less h = at_odds (is_printable line) printable h
+    earlier reason.Later less h = at_odds (is_later (Between b) line) h built
+    earlier reason.Header less h = absurd (omega (arith, h, header))
+    earlier reason.Block less h = h
+    earlier reason.Late less h = at_odds (opens_asset line) h.1 none
+    earlier reason.Asset less h = at_odds (opens_asset line) h.1 none
+    earlier reason.Call less h = h.1 is
+    earlier reason.Lock less h = free h.1
     earlier e less h = absurd (omega arith)
 
 -- ---- why a line isn't taken
@@ -247,33 +280,45 @@ unfolding after_desktop
 desktop_why d line why printable is =
     subst (Why (Between (before_at 3 d)) line) (valueless (desktop_in (words_of line)) (header_reason line) (λ colour. with_colour d colour.0) why is) (header_why (before_at 3 d) line printable (lit< tt))
 
-class_line_why : (d : Draft) (o : Option ClassLine) (why : Reason) → after_class_line d o ≡ Err why → reason.Block ≡ why
-class_line_why d None why is = cc
-class_line_why d (Some l) why is = (refused (may_have d.said.assets d.class l) (record d { class = class_with d.class l }) reason.Block why is).1
+gone_why : (d : Draft) (r : Result (Block × Bool) Reason) (why : Reason) → gone_on d r ≡ Err why → r ≡ Err why
+gone_why d (Ok x) why is = absurd cc
+gone_why d (Err other) why is = cc
 
-block_why : (d : Draft) (line : List ℕ) (why : Reason) → is_printable line ≡ true → after_block d line ≡ Err why → Why InClass line why
-unfolding after_block
-block_why d line why printable is =
-    elim (chosen (bytes_eq line (codes "end")) (Ok (ended d)) (after_class_line d (class_line_of (words_of line))) (Err why) is) [
-      | inl end ↦ absurd (cc (end.1))
-      | inr other ↦ subst (Why InClass line) (class_line_why d (class_line_of (words_of line)) why other.1) (block_first line printable)
-    ]
+block_why : (d : Draft) (c : Block) (line : List ℕ) (why : Reason) → is_printable line ≡ true → after_block c d line ≡ Err why → Why InBlock line why
+block_why d c line why printable is =
+    subst (Why InBlock line) (block_reason d.said.assets c line why (gone_why d (block_after d.said.assets c line) why is)) (block_first line printable)
 
 -- ---- and after the header
 
 class_why : (d : Draft) (o : Option (Values class_fields)) (why : Reason) → after_class d o ≡ Err why → reason.Asset ≡ why
 class_why d None why is = cc
-class_why d (Some vs) why is = (refused (eqb vs.0 (length d.said.assets.classes)) (opened d vs.1.0) reason.Asset why is).1
+class_why d (Some vs) why is = (refused (eqb vs.0 (length d.said.assets.classes)) (opened d (block.Class (plain_class vs.1.0))) reason.Asset why is).1
 
 string_why : (d : Draft) (o : Option (ℕ × List ℕ)) (why : Reason) → after_string d o ≡ Err why → reason.Asset ≡ why
 string_why d None why is = cc
 string_why d (Some x) why is = (refused (eqb x.0 (length d.said.assets.strings)) (record d { said = with_string d.said x.1 }) reason.Asset why is).1
 
+font_why : (d : Draft) (o : Option (Values font_fields)) (why : Reason) → after_font d o ≡ Err why → reason.Asset ≡ why
+font_why d None why is = cc
+font_why d (Some vs) why is = (refused (eqb vs.0 (length d.said.assets.fonts)) (opened d (block.Font (fonts.start vs.1.0))) reason.Asset why is).1
+
+bitmap_why : (d : Draft) (o : Option (Values bitmap_fields)) (why : Reason) → after_bitmap d o ≡ Err why → reason.Asset ≡ why
+bitmap_why d None why is = cc
+bitmap_why d (Some vs) why is = (refused (eqb vs.0 (length d.said.assets.bitmaps)) (opened d (block.Bitmap (bitmaps.start vs.1.0 vs.1.1.0))) reason.Asset why is).1
+
 early_why : (d : Draft) (first : List ℕ) (words : List (List ℕ)) (why : Reason) → after_early d first words ≡ Err why → reason.Asset ≡ why
 early_why d first words why is =
-    elim (chosen (bytes_eq first (codes "class")) (after_class d (class_in words)) (after_string d (string_in words)) (Err why) is) [
+    elim (chosen (bytes_eq first (codes "class")) (after_class d (class_in words)) _ (Err why) is) [
       | inl class ↦ class_why d (class_in words) why class.1
-      | inr string ↦ string_why d (string_in words) why string.1
+      | inr no_class ↦
+          elim (chosen (bytes_eq first (codes "font")) (after_font d (font_in words)) _ (Err why) no_class.1) [
+            | inl font ↦ font_why d (font_in words) why font.1
+            | inr no_font ↦
+                elim (chosen (bytes_eq first (codes "bitmap")) (after_bitmap d (bitmap_in words)) _ (Err why) no_font.1) [
+                  | inl bitmap ↦ bitmap_why d (bitmap_in words) why bitmap.1
+                  | inr string ↦ string_why d (string_in words) why string.1
+                ]
+          ]
     ]
 
 asset_why : (d : Draft) (line first : List ℕ) (words : List (List ℕ)) (why : Reason) → is_printable line ≡ true → words_of line ≡ first ∷ words → is_one_of asset_words first ≡ true → after_asset d first words ≡ Err why → Why (Between (before_at 4 d)) line why
@@ -299,16 +344,15 @@ asset_why d line first words why printable spelled asset is =
 or_false_between : (a c : Bool) → ((a || false) || c) ≡ (a || c)
 or_false_between a c = ap (λ (x : Bool). x || c) (or-false a)
 
-class_by_asset : (first : List ℕ) → is_one_of asset_words first ≡ false → bytes_eq first (codes "class") ≡ false
+class_is_asset : is_one_of asset_words (codes "class") ≡ true
 unfolding is_one_of asset_words
+class_is_asset = refl
+
+class_by_asset : (first : List ℕ) → is_one_of asset_words first ≡ false → bytes_eq first (codes "class") ≡ false
 class_by_asset first none =
-    elim (cases_Bool (bytes_eq (codes "string") first)) [
-      | inl string ↦ absurd (at_odds (is_one_of asset_words first) (rw string refl) none)
-      | inr other ↦
-          elim (cases_Bool (bytes_eq (codes "class") first)) [
-            | inl class ↦ absurd (at_odds (is_one_of asset_words first) (rw (other, class) refl) none)
-            | inr differs ↦ not_class first differs
-          ]
+    elim (cases_Bool (bytes_eq first (codes "class"))) [
+      | inl class ↦ absurd (at_odds (is_one_of asset_words first) (ap (is_one_of asset_words) (named first (codes "class") class) ∙ class_is_asset) none)
+      | inr other ↦ other
     ]
 
 call_reason_is : (first : List ℕ) (words : List (List ℕ)) → is_one_of asset_words first ≡ false → call_reason first words ≡ cond (is_later_elsewhere (first ∷ words)) reason.Later reason.Call
@@ -334,13 +378,27 @@ other_why d line (first ∷ words) why printable none spelled is =
           (by_test (Between b) line (is_later_elsewhere (first ∷ words)) reason.Later reason.Call (λ later. later_first (Between b) line printable (form ∙ later)) (λ built. call_first b line printable (form ∙ built) refl (ap (begins_with_one_of asset_words) spelled ∙ closed.0) (no_call line none)))
     ]
 
+-- the locks allow a line by what it says
+not_barred : (locks text : List ℕ) (l : Line) → line_of (words_of text) ≡ Some l → may_do locks l ≡ true → IsBarred locks text → ⊥
+not_barred locks text l read may barred =
+    let same : barred.0 ≡ l = same_Some barred.0 l (sym (line_spelled text barred.0 barred.2 barred.1) ∙ read) in
+    at_odds (may_do locks l) may (ap (may_do locks) (sym same) ∙ barred.3)
+
 body_why : (d : Draft) (line : List ℕ) (o : Option Line) (why : Reason) → is_printable line ≡ true → line_of (words_of line) ≡ o → after_call d line o ≡ Err why → Why (Between (before_at 4 d)) line why
 body_why d line None why printable read is = other_why d line (words_of line) why printable read refl is
 body_why d line (Some l) why printable read is =
     let b : Before = before_at 4 d in
     let t = line_read line l read in
-    subst (Why (Between b) line) (refused (ltb (length d.said.lines) 400000) (record d { said = with_line d.said l }) reason.Many why is).1
-    (many_first b line printable (line_is_built line l read) refl (line_opens_no_asset line l read) (l, t.1, t.0))
+    let built = line_is_built line l read in
+    let no_asset = line_opens_no_asset line l read in
+    elim (chosen (may_do d.locks l) (cond (ltb (length d.said.lines) 400000) (Ok (with_call d l)) (Err reason.Many)) (Err reason.Lock) (Err why) is) [
+      | inl may ↦
+          subst (Why (Between b) line) (refused (ltb (length d.said.lines) 400000) (with_call d l) reason.Many why may.1).1
+          (many_first b line printable built refl no_asset (l, t.1, t.0) (not_barred d.locks line l read may.0))
+      | inr barred ↦
+          let same : reason.Lock ≡ why = cc (barred.1) in
+          subst (Why (Between b) line) same (lock_first b line printable built refl no_asset (l, t.1, t.0) (l, t.1, t.0, barred.0))
+    ]
 
 call_why : (d : Draft) (line : List ℕ) (why : Reason) → is_printable line ≡ true → after_body d line ≡ Err why → Why (Between (before_at 4 d)) line why
 unfolding after_body
@@ -352,14 +410,14 @@ words_why stage.Screen d line why printable is = screen_why d line why printable
 words_why stage.Buffers d line why printable is = buffers_why d line why printable is
 words_why stage.Desktop d line why printable is = desktop_why d line why printable is
 words_why stage.Body d line why printable is = call_why d line why printable is
-words_why stage.Block d line why printable is = block_why d line why printable is
+words_why (stage.Block c) d line why printable is = block_why d c line why printable is
 
 pub line_why : (d : Draft) (line : List ℕ) (why : Reason) → after_line d line ≡ Err why → Why (place_of d) line why
 unfolding after_line
 line_why d line why is =
-    elim (chosen (is_printable line) (cond (is_comment line) (Ok d) (after_words d.stage d line)) (Err reason.Ascii) (Err why) is) [
+    elim (chosen (is_printable line) (cond (is_comment line && takes_comments d.stage) (Ok d) (after_words d.stage d line)) (Err reason.Ascii) (Err why) is) [
       | inl printable ↦
-          elim (chosen (is_comment line) (Ok d) (after_words d.stage d line) (Err why) printable.1) [
+          elim (chosen (is_comment line && takes_comments d.stage) (Ok d) (after_words d.stage d line) (Err why) printable.1) [
             | inl skipped ↦ absurd (cc skipped.1)
             | inr words ↦ words_why d.stage d line why printable.0 words.1
           ]
@@ -380,6 +438,7 @@ apart reason.Block reason.Block e = refl
 apart reason.Late reason.Late e = refl
 apart reason.Asset reason.Asset e = refl
 apart reason.Call reason.Call e = refl
+apart reason.Lock reason.Lock e = refl
 apart reason.Many reason.Many e = refl
 apart reason.End reason.End e = refl
 apart a b e = absurd (omega arith)

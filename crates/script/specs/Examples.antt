@@ -1,43 +1,86 @@
 -- A small script, and the lines of its file.
-use Rattle.std.specs.Prelude.{ℕ, pos, List, [], ◌∷◌, map, codes}
-use Rattle.paint_ops.specs.Kinds.{Assets}
+use Rattle.std.specs.Prelude.{ℕ, pos, List, [], ◌∷◌, ◌++◌, Some, codes}
+use Rattle.gfx_base.specs.declared.num.Base.TheVariants.{Zero}
+use Rattle.gfx_base.specs.declared.num.Num.{Num}
+use Rattle.glyph_font.specs.Examples.{single, single_lines}
+use Rattle.bitmap.specs.Examples.{dotted}
+use Rattle.paint_ops.specs.declared.op.Op.TheVariants as op
+use Rattle.paint_ops.specs.Kinds.{Class, Assets}
+use Rattle.class_lines.specs.declared.line.ClassLine.{ClassLine}
+use Rattle.class_lines.specs.declared.line.ClassLine.TheVariants.{Operation}
 use Rattle.calls.specs.declared.call.Call.{Call}
 use Rattle.calls.specs.declared.call.Call.TheVariants.{Create, Exec}
 use Rattle.calls.specs.declared.line.Act.TheVariants as act
 use Rattle.calls.specs.declared.line.Line.{Line}
 use Rattle.calls.specs.declared.line.Line.TheVariants.{Task}
-use Rattle.script.specs.Scripts.{Item, Title, Screen, Buffers, Desktop, ClassOf, CallOf, Listing, no_assets, plain_class}
+use Rattle.script.specs.Scripts.{Item, Title, Screen, Buffers, Desktop, FontOf, BitmapOf, StringOf, ClassOf, CallOf, Listing, plain_class}
 
 -- a call of task 1
 abbrev pub by_task_1 : Call → Line
 by_task_1 call = Task 1 (act.Call call)
 
--- what windows of classes paint with that have a back colour alone
-abbrev pub plain_assets : List ℕ → Assets
-plain_assets colours = record no_assets { classes = map plain_class colours }
+abbrev pub corner : Num
+corner = record { base = Zero; plus = pos 0 }
 
--- two windows are to be made, and painted
+-- the string in its font, in the window's corner
+abbrev pub greeting : ClassLine
+greeting = Operation (op.Text 0 corner corner 255 0)
+
+abbrev pub greeter : Class
+greeter = record {
+  back = Some 255;
+  ops = op.Text 0 corner corner 255 0 ∷ [];
+  reactions = [];
+}
+
+abbrev pub small_assets : Assets
+small_assets = record {
+  classes = plain_class 0 ∷ greeter ∷ [];
+  fonts = single ∷ [];
+  bitmaps = dotted ∷ [];
+  strings = codes "A A" ∷ [];
+}
+
+-- task 2 holds the lock while it paints two windows
+abbrev pub small_call_lines : List Line
+small_call_lines =
+    by_task_1 (Create 1 (pos 0) (pos 0) 0 1 1) ∷ by_task_1 (Create 1 (pos 0) (pos 0) 1 1 7)
+    ∷ Task 2 act.Lock ∷ Task 2 (act.Call Exec) ∷ Task 2 act.Unlock ∷ []
+
 abbrev pub small_listing : Listing
 small_listing = record {
   width = 2;
   height = 1;
   desktop = 0;
-  assets = plain_assets (0 ∷ 255 ∷ []);
-  lines =
-      by_task_1 (Create 1 (pos 0) (pos 0) 0 1 1) ∷ by_task_1 (Create 1 (pos 0) (pos 0) 1 1 7)
-      ∷ by_task_1 Exec ∷ [];
+  assets = small_assets;
+  lines = small_call_lines;
 }
 
 -- the items that say so
 abbrev pub small_items : List Item
 small_items =
-    Title ∷ Screen 2 1 ∷ Buffers ∷ Desktop 0 ∷ ClassOf 255 []
+    Title ∷ Screen 2 1 ∷ Buffers ∷ Desktop 0 ∷ FontOf single ∷ BitmapOf dotted
+    ∷ StringOf (codes "A A") ∷ ClassOf 255 (greeting ∷ [])
     ∷ CallOf (by_task_1 (Create 1 (pos 0) (pos 0) 0 1 1))
-    ∷ CallOf (by_task_1 (Create 1 (pos 0) (pos 0) 1 1 7)) ∷ CallOf (by_task_1 Exec) ∷ []
+    ∷ CallOf (by_task_1 (Create 1 (pos 0) (pos 0) 1 1 7)) ∷ CallOf (Task 2 act.Lock)
+    ∷ CallOf (Task 2 (act.Call Exec)) ∷ CallOf (Task 2 act.Unlock) ∷ []
 
 -- the lines of that script's file, with comments
+abbrev pub calls_text : List (List ℕ)
+calls_text =
+    codes "1 create 1 0 0 0 1 1" ∷ codes "1 create 1 0 0 1 1 7" ∷ codes "2 lock" ∷ codes "2 exec"
+    ∷ codes "2 unlock" ∷ []
+
+abbrev pub class_lines_text : List (List ℕ)
+class_lines_text =
+    codes "class 1 0000FF" ∷ codes "" ∷ codes "text 0 0 0 0000FF 0" ∷ codes "end" ∷ calls_text
+
+abbrev pub assets_text : List (List ℕ)
+assets_text =
+    codes "font 0 1" ∷ single_lines ++ codes "bitmap 0 3 1" ∷ codes "FF0000 -*2" ∷ codes "end"
+    ∷ codes "string 0 A A" ∷ class_lines_text
+
 abbrev pub small_lines : List (List ℕ)
 small_lines =
     codes "mtgui 1" ∷ codes "# a small screen" ∷ codes "screen 2 1" ∷ codes "buffers 1"
-    ∷ codes "desktop 000000" ∷ codes "class 1 0000FF" ∷ codes "" ∷ codes "end"
-    ∷ codes "1 create 1 0 0 0 1 1" ∷ codes "1 create 1 0 0 1 1 7" ∷ codes "1 exec" ∷ []
+    ∷ codes "desktop 000000" ∷ assets_text

@@ -5,6 +5,12 @@ use Rattle.spelling.specs.Parts.{lines_of, is_printable}
 use Rattle.spelling.specs.Words.{words_of, natural_in}
 use Rattle.spelling.specs.Fields.{AreIn}
 use Rattle.spelling.specs.FirstFaults.{IsFirst, IsFirstFault}
+use Rattle.glyph_font.specs.declared.place.Place.{Place as FontPlace}
+use Rattle.glyph_font.specs.declared.place.Place.TheVariants as font_place
+use Rattle.glyph_font.specs.Faults as fonts
+use Rattle.bitmap.specs.declared.place.Place.{Place as BitmapPlace}
+use Rattle.bitmap.specs.declared.place.Place.TheVariants as bitmap_place
+use Rattle.bitmap.specs.Faults as bitmaps
 use Rattle.class_lines.specs.declared.line.ClassLine.{ClassLine}
 use Rattle.calls.specs.declared.line.Line.{Line}
 use Rattle.calls.specs.Words.{text_of_line, LineFits}
@@ -14,14 +20,14 @@ use Rattle.script.specs.declared.fault.ScriptFault.{ScriptFault}
 use Rattle.script.specs.declared.fault.ScriptRefused.{ScriptRefused}
 use Rattle.script.specs.declared.fault.ScriptRefused.TheVariants as read_error
 use Rattle.script.specs.Later.{is_one_of, begins_with_one_of, asset_words, later_words, is_later_class, is_later_call}
-use Rattle.script.specs.Scripts.{Item, Before, IsEarly, AreClassLines, class_fields, class_text, after_items, AreItemsOf}
+use Rattle.script.specs.Scripts.{Item, Before, IsEarly, AreClassLines, class_fields, class_text, font_fields, font_text, bitmap_fields, bitmap_text, may_do, are_free, after_items, AreItemsOf}
 
 -- ---- where a line stands
 
--- between items, after what stands before; or in a class's block
+-- between items, after what stands before; or in a block
 pub data Place : Type 0 where
   Between : Before → Place
-  InClass : Place
+  InBlock : Place
 
 -- whole items, and what stands after them
 pub record AreWhole (lines : List (List ℕ)) (b : Before) : Type 0 where
@@ -29,22 +35,52 @@ pub record AreWhole (lines : List (List ℕ)) (b : Before) : Type 0 where
   pub spelled : AreItemsOf items lines
   pub before : after_items items ≡ b
 
--- whole items, and then the first line of a class that may be opened there, and lines of it
+-- the first line of a class that may be opened there, and lines of it
+pub record OpensClass (b : Before) (block : List (List ℕ)) : Type 0 where
+  pub back : ℕ
+  pub counted : AreIn class_fields (length b.said.assets.classes, (back, tt))
+  pub lines : List ClassLine
+  pub body : List (List ℕ)
+  pub are : AreClassLines b.said.assets back lines body
+  pub spelled : block ≡ class_text (length b.said.assets.classes) back ∷ body
+
+-- the first line of a font that may be opened there, and its first lines, without `end`
+pub record OpensFont (b : Before) (block : List (List ℕ)) : Type 0 where
+  pub height : ℕ
+  pub counted : AreIn font_fields (length b.said.assets.fonts, (height, tt))
+  pub body : List (List ℕ)
+  pub place : FontPlace
+  pub are : fonts.IsFront height body place
+  pub open_ : place ≡ font_place.After → ⊥
+  pub spelled : block ≡ font_text (length b.said.assets.fonts) height ∷ body
+
+-- the first line of a bitmap that may be opened there, and its first lines, without `end`
+pub record OpensBitmap (b : Before) (block : List (List ℕ)) : Type 0 where
+  pub width : ℕ
+  pub height : ℕ
+  pub counted : AreIn bitmap_fields (length b.said.assets.bitmaps, (width, (height, tt)))
+  pub body : List (List ℕ)
+  pub place : BitmapPlace
+  pub are : bitmaps.IsFront width height body place
+  pub open_ : place ≡ bitmap_place.AfterEnd → ⊥
+  pub spelled : block ≡ bitmap_text (length b.said.assets.bitmaps) width height ∷ body
+
+abbrev pub OpensBlock : Before → List (List ℕ) → Type 0
+OpensBlock b block = OpensClass b block ⊎ OpensFont b block ⊎ OpensBitmap b block
+
+-- whole items, and then the first lines of a block that may be opened there
 pub record AreOpen (lines : List (List ℕ)) : Type 0 where
   pub front : List (List ℕ)
   pub before : Before
   pub whole : AreWhole front before
   pub early : IsEarly before
-  pub back : ℕ
-  pub counted : AreIn class_fields (length before.said.assets.classes, (back, tt))
-  pub class_lines : List ClassLine
-  pub body : List (List ℕ)
-  pub are : AreClassLines before.said.assets back class_lines body
-  pub spelled : lines ≡ front ++ class_text (length before.said.assets.classes) back ∷ body
+  pub block : List (List ℕ)
+  pub opens : OpensBlock before block
+  pub spelled : lines ≡ front ++ block
 
 abbrev pub StandsAt : List (List ℕ) → Place → Type 0
 StandsAt lines (Between b) = AreWhole lines b
-StandsAt lines InClass = AreOpen lines
+StandsAt lines InBlock = AreOpen lines
 
 -- the lines are the first ones of a script, and after them stands this place
 abbrev pub IsFront : List (List ℕ) → Place → Type 0
@@ -64,13 +100,18 @@ is_later_elsewhere (first ∷ words) =
 abbrev pub is_later : Place → List ℕ → Bool
 is_later (Between b) line =
     if nat_lt b.header 4 then is_later_in_header line else is_later_elsewhere (words_of line)
-is_later InClass line = false
+is_later InBlock line = false
 
 -- ---- reasons
 
 -- the line is a call line
 abbrev pub IsCallLine : List ℕ → Type 0
 IsCallLine text = (line : Line) × LineFits line × (text ≡ text_of_line line)
+
+-- the line is a call line, and the locks don't allow it
+abbrev pub IsBarred : List ℕ → List ℕ → Type 0
+IsBarred locks text =
+    (line : Line) × LineFits line × (text ≡ text_of_line line) × (may_do locks line ≡ false)
 
 -- the first word is one of them
 abbrev pub opens_asset : List ℕ → Bool
@@ -84,16 +125,17 @@ HoldsBetween b line reason.Late =
     (b.header ≡ 4) × (opens_asset line ≡ true) × (0 < length b.said.lines)
 HoldsBetween b line reason.Asset = (b.header ≡ 4) × (opens_asset line ≡ true)
 HoldsBetween b line reason.Call = (b.header ≡ 4) × (IsCallLine line → ⊥)
+HoldsBetween b line reason.Lock = (b.header ≡ 4) × IsBarred b.locks line
 HoldsBetween b line reason.Many = (b.header ≡ 4) × IsCallLine line
 HoldsBetween b line _ = ⊥
 
-abbrev pub HoldsInClass : Reason → Type 0
-HoldsInClass reason.Block = Unit {0}
-HoldsInClass _ = ⊥
+abbrev pub HoldsInBlock : Reason → Type 0
+HoldsInBlock reason.Block = Unit {0}
+HoldsInBlock _ = ⊥
 
 abbrev pub HoldsAt : Place → List ℕ → Reason → Type 0
 HoldsAt (Between b) line why = HoldsBetween b line why
-HoldsAt InClass line why = HoldsInClass why
+HoldsAt InBlock line why = HoldsInBlock why
 
 abbrev pub Holds : Place → List ℕ → Reason → Type 0
 Holds place line reason.Ascii = is_printable line ≡ false
@@ -110,17 +152,18 @@ rank reason.Block = 4
 rank reason.Late = 5
 rank reason.Asset = 6
 rank reason.Call = 7
-rank reason.Many = 8
-rank reason.End = 9
+rank reason.Lock = 8
+rank reason.Many = 9
+rank reason.End = 10
 
 -- the first reason that holds
 abbrev pub Why : Place → List ℕ → Reason → Type 0
 Why place line why = IsFirst rank (Holds place line) why
 
--- the file may end after the whole header, outside blocks
+-- the file may end after the whole header, outside blocks, where no lock is open
 abbrev pub why_cut : Place → Option Reason
-why_cut (Between b) = if b.header == 4 then None else Some reason.End
-why_cut InClass = Some reason.End
+why_cut (Between b) = if b.header == 4 && are_free b.locks then None else Some reason.End
+why_cut InBlock = Some reason.End
 
 -- ---- faults
 

@@ -1,9 +1,11 @@
 -- What a script's lines say, read from left to right.
-use Rattle.std.specs.Prelude.{ℕ, ◌&&◌, List, [], ◌∷◌, length, Option, Some, None, nat_le, if◌then◌else◌, codes}
+use Rattle.std.specs.Prelude.{ℕ, ◌≤◌, ◌&&◌, List, [], ◌∷◌, length, Option, Some, None, nat_le, if◌then◌else◌, codes}
 use Rattle.spelling.specs.Parts.{is_printable}
 use Rattle.spelling.specs.Words.{◌>>=◌, natural_at, text_of_words}
 use Rattle.spelling.specs.Fields.{Values, values_of, line_values}
-use Rattle.script.specs.Scripts.{screen_fields, desktop_fields, class_fields}
+use Rattle.calls.specs.declared.line.Line.{Line}
+use Rattle.calls.specs.declared.line.Line.TheVariants.{Task}
+use Rattle.script.specs.Scripts.{screen_fields, desktop_fields, class_fields, font_fields, bitmap_fields}
 
 -- the sides in the words of `screen W H`
 unfoldable pub screen_in : List (List ℕ) → Option (Values screen_fields)
@@ -16,6 +18,14 @@ desktop_in words = line_values (codes "desktop") desktop_fields words
 -- the number and the colour in the words after `class`
 unfoldable pub class_in : List (List ℕ) → Option (Values class_fields)
 class_in words = values_of class_fields words
+
+-- the number and the height in the words after `font`
+unfoldable pub font_in : List (List ℕ) → Option (Values font_fields)
+font_in words = values_of font_fields words
+
+-- the number and the sides in the words after `bitmap`
+unfoldable pub bitmap_in : List (List ℕ) → Option (Values bitmap_fields)
+bitmap_in words = values_of bitmap_fields words
 
 -- the text that begins with a space, at most 64 bytes after it
 abbrev pub text_in : List (List ℕ) → Option (List ℕ)
@@ -31,3 +41,7 @@ string_in words = do
   number ← natural_at 0 255 words
   text ← text_in number.1
   Some (number.0, text)
+
+-- the line's task is one from 1 to 16
+abbrev pub IsTasks : Line → Type 0
+IsTasks (Task task a) = (1 ≤ task) × (task ≤ 16)

@@ -14,18 +14,18 @@ begins_with_one_of names (word ∷ words) = is_one_of names word
 
 -- first words of assets' lines
 unfoldable pub asset_words : List ℕ
-asset_words = codes "string class"
+asset_words = codes "string class font bitmap"
 
 -- first words outside blocks
 unfoldable pub later_words : List ℕ
-later_words = codes "font bitmap display viewer done"
+later_words = codes "display viewer done"
 
 -- second words, after a task
 unfoldable pub later_calls : List ℕ
 later_calls =
     codes "set_trans set_memdev set_value send select colour bk_colour text_mode font save " ++
     codes "restore fill frame line bitmap text dev_create dev_delete dev_select dev_copy begin " ++
-    codes "end lock unlock"
+    codes "end"
 
 -- the words after `class` are of a class without a back colour
 abbrev pub is_later_class : List (List ℕ) → Bool

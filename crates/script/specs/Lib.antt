@@ -1,3 +1,4 @@
+pub mod BlockErrors
 pub mod Scripts
 pub mod Fields
 pub mod Later

@@ -1,6 +1,10 @@
 -- What a script says, and which files are scripts.
-use Rattle.std.specs.Prelude.{◌≡◌, ℕ, ◌+◌, ◌≤◌, Bool, true, ◌&&◌, List, [], ◌∷◌, ◌++◌, length, Some, nat_lt, codes, decimal}
-use Rattle.std.specs.List.{AllByRecursion}
+use Rattle.std.specs.Prelude.{◌≡◌, ℕ, ◌+◌, ◌-◌, ◌≤◌, ◌==◌, slice_index, slice_set, replicate, Bool, true, ◌&&◌, List, [], ◌∷◌, ◌++◌, length, Some, nat_lt, codes, decimal}
+use Rattle.std.specs.List.{AllByRecursion, list_all}
+use Rattle.glyph_font.specs.Fonts.{Font, IsFont}
+use Rattle.glyph_font.specs.Texts.{font_lines}
+use Rattle.bitmap.specs.Bitmaps.{Bitmap}
+use Rattle.bitmap.specs.Texts.{AreLinesOf}
 use Rattle.paint_ops.specs.declared.op.Op.{Op}
 use Rattle.paint_ops.specs.declared.op.Op.TheVariants as op
 use Rattle.paint_ops.specs.Kinds.{Class, Assets}
@@ -11,7 +15,10 @@ use Rattle.class_lines.specs.declared.line.ClassLine.TheVariants.{Operation, Rea
 use Rattle.class_lines.specs.Words.{text_of_class_line, ClassLineFits}
 use Rattle.calls.specs.declared.config.Config.{Config}
 use Rattle.calls.specs.declared.line.Line.{Line}
-use Rattle.calls.specs.Lines.{FitsItsTask}
+use Rattle.calls.specs.declared.line.Act.{Act}
+use Rattle.calls.specs.declared.line.Act.TheVariants as act
+use Rattle.calls.specs.declared.line.Line.TheVariants.{Task}
+use Rattle.calls.specs.Lines.{FitsItsTask, call_count}
 use Rattle.calls.specs.Words.{text_of_line, LineFits}
 use Rattle.spelling.specs.Parts.{lines_of, is_printable}
 use Rattle.spelling.specs.Words.{text_of_words}
@@ -30,9 +37,26 @@ desktop_fields = Colour ∷ []
 abbrev pub class_fields : List Field
 class_fields = Natural 1 63 ∷ Colour ∷ []
 
+-- a font's number and its height in points
+abbrev pub font_fields : List Field
+font_fields = Natural 0 7 ∷ Natural 1 32 ∷ []
+
+-- a bitmap's number and its sides in points
+abbrev pub bitmap_fields : List Field
+bitmap_fields = Natural 0 31 ∷ Natural 1 256 ∷ Natural 1 256 ∷ []
+
 -- the line that opens a class
 abbrev pub class_text : ℕ → ℕ → List ℕ
 class_text number back = text_with (codes "class") class_fields (number, (back, tt))
+
+-- the line that opens a font
+abbrev pub font_text : ℕ → ℕ → List ℕ
+font_text number height = text_with (codes "font") font_fields (number, (height, tt))
+
+-- the line that opens a bitmap
+abbrev pub bitmap_text : ℕ → ℕ → ℕ → List ℕ
+bitmap_text number width height =
+    text_with (codes "bitmap") bitmap_fields (number, (width, (height, tt)))
 
 -- the line of the string of this number, whose text may have spaces
 abbrev pub string_text : ℕ → List ℕ → List ℕ
@@ -63,6 +87,15 @@ plain_class colour = record { back = Some colour; ops = []; reactions = [] }
 abbrev pub with_class : Listing → Class → Listing
 with_class l class =
     record l { assets = record l.assets { classes = l.assets.classes ++ class ∷ [] } }
+
+-- with a font more
+abbrev pub with_font : Listing → Font → Listing
+with_font l font = record l { assets = record l.assets { fonts = l.assets.fonts ++ font ∷ [] } }
+
+-- with a bitmap more
+abbrev pub with_bitmap : Listing → Bitmap → Listing
+with_bitmap l bitmap =
+    record l { assets = record l.assets { bitmaps = l.assets.bitmaps ++ bitmap ∷ [] } }
 
 -- with a string more
 abbrev pub with_string : Listing → List ℕ → Listing
@@ -109,26 +142,63 @@ AreClassLines assets back lines body =
 abbrev pub class_of : ℕ → List ClassLine → Class
 class_of back lines = all_after class_with (plain_class back) lines
 
+-- ---- the lock
+
+-- how many locks of a task are open, of all tasks from 0 to 16
+abbrev pub open_locks : List ℕ → ℕ → ℕ
+open_locks locks task = slice_index locks task
+
+-- a task that holds the lock so many times may do that: it holds it 100 times over at most, and
+-- gives back what it holds
+abbrev pub may_act_with : ℕ → Act → Bool
+may_act_with count (act.Call call) = true
+may_act_with count act.Lock = nat_lt count 100
+may_act_with count act.Unlock = nat_lt 0 count
+
+-- the open locks after that
+abbrev pub locks_after : List ℕ → ℕ → Act → List ℕ
+locks_after locks task (act.Call call) = locks
+locks_after locks task act.Lock = slice_set locks task (open_locks locks task + 1)
+locks_after locks task act.Unlock = slice_set locks task (open_locks locks task - 1)
+
+abbrev pub may_do : List ℕ → Line → Bool
+may_do locks (Task task a) = may_act_with (open_locks locks task) a
+
+abbrev pub locks_with : List ℕ → Line → List ℕ
+locks_with locks (Task task a) = locks_after locks task a
+
+-- no task holds the lock
+abbrev pub no_locks : List ℕ
+no_locks = replicate 17 0
+
+-- whether none does
+unfoldable pub are_free : List ℕ → Bool
+are_free locks = list_all (λ n. n == 0) locks
+
 -- ---- items
 
--- the header's four lines, and what follows them: strings, classes by their back colours and lines,
--- and call lines
+-- the header's four lines, and what follows them: fonts, bitmaps, strings, classes by their back
+-- colours and lines, and call lines
 pub data Item : Type 0 where
   Title : Item
   Screen : ℕ → ℕ → Item
   Buffers : Item
   Desktop : ℕ → Item
+  FontOf : Font → Item
+  BitmapOf : Bitmap → Item
   StringOf : List ℕ → Item
   ClassOf : ℕ → List ClassLine → Item
   CallOf : Line → Item
 
--- what stands before an item: how many lines of the header, and what the items say
+-- what stands before an item: how many lines of the header, what the items say, and which locks
+-- are open
 pub record Before : Type 0 where
   pub header : ℕ
   pub said : Listing
+  pub locks : List ℕ
 
 abbrev pub nothing : Before
-nothing = record { header = 0; said = empty_listing }
+nothing = record { header = 0; said = empty_listing; locks = no_locks }
 
 -- the desktop's class is the first one
 abbrev pub with_desktop : Listing → ℕ → Listing
@@ -136,13 +206,15 @@ with_desktop l colour = with_class (record l { desktop = colour }) (plain_class 
 
 abbrev pub after : Before → Item → Before
 after b Title = record b { header = 1 }
-after b (Screen w h) =
-    record { header = 2; said = record b.said { width = w; height = h } }
+after b (Screen w h) = record b { header = 2; said = record b.said { width = w; height = h } }
 after b Buffers = record b { header = 3 }
-after b (Desktop colour) = record { header = 4; said = with_desktop b.said colour }
+after b (Desktop colour) = record b { header = 4; said = with_desktop b.said colour }
+after b (FontOf font) = record b { said = with_font b.said font }
+after b (BitmapOf bitmap) = record b { said = with_bitmap b.said bitmap }
 after b (StringOf text) = record b { said = with_string b.said text }
 after b (ClassOf back lines) = record b { said = with_class b.said (class_of back lines) }
-after b (CallOf line) = record b { said = with_line b.said line }
+after b (CallOf line) =
+    record b { said = with_line b.said line; locks = locks_with b.locks line }
 
 -- what stands after items
 abbrev pub after_items : List Item → Before
@@ -152,7 +224,7 @@ after_items items = all_after after nothing items
 abbrev pub listing_of : List Item → Listing
 listing_of items = (after_items items).said
 
--- fonts, strings and classes stand after the header and before the call lines
+-- fonts, bitmaps, strings and classes stand after the header and before the call lines
 pub record IsEarly (b : Before) : Type 0 where
   pub header : b.header ≡ 4
   pub none : length b.said.lines ≡ 0
@@ -160,6 +232,23 @@ pub record IsEarly (b : Before) : Type 0 where
 -- one line of the header, at its place
 abbrev pub IsHeader : Before → ℕ → List (List ℕ) → List ℕ → Type 0
 IsHeader b place block line = (b.header ≡ place) × (block ≡ line ∷ [])
+
+-- a font's first line, and its own lines to `end`; no comment stands among them
+pub record IsFontBlock (b : Before) (font : Font) (block : List (List ℕ)) : Type 0 where
+  pub early : IsEarly b
+  pub counted : AreIn font_fields (length b.said.assets.fonts, (font.height, tt))
+  pub is : IsFont font
+  pub spelled : block ≡ font_text (length b.said.assets.fonts) font.height ∷ font_lines font
+
+-- a bitmap's first line, and its own lines to `end`; no comment stands among them
+pub record IsBitmapBlock (b : Before) (bitmap : Bitmap) (block : List (List ℕ)) : Type 0 where
+  pub early : IsEarly b
+  pub counted : AreIn bitmap_fields
+      (length b.said.assets.bitmaps, (bitmap.width, (bitmap.height, tt)))
+  pub body : List (List ℕ)
+  pub are : AreLinesOf bitmap.width bitmap.height body bitmap
+  pub spelled :
+      block ≡ bitmap_text (length b.said.assets.bitmaps) bitmap.width bitmap.height ∷ body
 
 -- a string's line
 pub record IsStringBlock (b : Before) (text : List ℕ) (block : List (List ℕ)) : Type 0 where
@@ -177,9 +266,10 @@ pub record IsClassBlock (b : Before) (back : ℕ) (lines : List ClassLine)
   pub are : AreClassLines b.said.assets back lines body
   pub spelled : block ≡ class_text (length b.said.assets.classes) back ∷ body ++ codes "end" ∷ []
 
--- a call line: after the header, and one of at most 400,000
+-- a call line: after the header, one of at most 400,000, and what the locks allow
 pub record IsCallBlock (b : Before) (line : Line) (block : List (List ℕ)) : Type 0 where
   pub header : b.header ≡ 4
+  pub may : may_do b.locks line ≡ true
   pub few : length b.said.lines + 1 ≤ 400000
   pub fits : LineFits line
   pub spelled : block ≡ text_of_line line ∷ []
@@ -194,6 +284,8 @@ Spells b Buffers block = IsHeader b 2 block (codes "buffers 1")
 Spells b (Desktop colour) block =
     IsHeader b 3 block (text_with (codes "desktop") desktop_fields (colour, tt))
     × AreIn desktop_fields (colour, tt)
+Spells b (FontOf font) block = IsFontBlock b font block
+Spells b (BitmapOf bitmap) block = IsBitmapBlock b bitmap block
 Spells b (StringOf text) block = IsStringBlock b text block
 Spells b (ClassOf back lines) block = IsClassBlock b back lines block
 Spells b (CallOf line) block = IsCallBlock b line block
@@ -210,7 +302,7 @@ pub record Script : Type 0 where
   pub assets : Assets
   pub lines : List Line
 
--- the script of what items say: one buffer, and room for as many calls as there are call lines
+-- the script of what items say: one buffer, and room for as many calls as its lines ask for
 abbrev pub script_for : Listing → Script
 script_for l = record {
   config = record {
@@ -218,18 +310,20 @@ script_for l = record {
     h = l.height;
     buffers = 1;
     desktop = l.desktop;
-    calls = length l.lines;
+    calls = call_count l.lines;
   };
   assets = l.assets;
   lines = l.lines;
 }
 
--- the file's lines are items, the whole header among them, and they make this script
+-- the file's lines are items, the whole header among them, which leave no lock open, and they make
+-- this script
 pub record IsScript (file : List ℕ) (s : Script) : Type 0 where
   pub items : List Item
   pub printable : AllByRecursion (λ line. is_printable line ≡ true) (lines_of file)
   pub spelled : AreItemsOf items (lines_of file)
   pub header : (after_items items).header ≡ 4
+  pub free : are_free (after_items items).locks ≡ true
   pub short : length file ≤ 100663296
   pub is : s ≡ script_for (listing_of items)
 
@@ -242,7 +336,7 @@ pub record IsReady (s : Script) : Type 0 where
   pub width : (1 ≤ s.config.w) × (s.config.w ≤ 1024)
   pub height : (1 ≤ s.config.h) × (s.config.h ≤ 768)
   pub buffers : s.config.buffers ≡ 1
-  pub calls : s.config.calls ≡ length s.lines
+  pub calls : s.config.calls ≡ call_count s.lines
   pub few_lines : length s.lines ≤ 400000
   pub has_desktop : 1 ≤ length s.assets.classes
   pub assets : IsSound s.assets

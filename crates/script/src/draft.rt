@@ -1,24 +1,31 @@
 //! A script as far as it was read.
 
 ghost use Rattle.std.specs.Prelude.{◌≡◌, ◌≤◌, length, IfOk, Ok};
+ghost use Rattle.glyph_font.specs.Reading as fonts;
+ghost use Rattle.bitmap.specs.Reading as bitmaps;
+ghost use Rattle.script.specs.declared.draft.Block.{Block as BlockOf};
+ghost use Rattle.script.specs.declared.draft.Block.TheVariants as block;
 ghost use Rattle.script.specs.declared.draft.Stage.TheVariants as stage;
-ghost use Rattle.spelling.specs.Words.{left};
-ghost use Rattle.script.specs.Reading.{draft_of, empty_draft, Takes};
+ghost use Rattle.spelling.specs.Words.{left, words_of};
+ghost use Rattle.script.specs.Reading.{draft_of, empty_draft, Takes, TakesBlock, IsBlock, IsDraft};
+ghost use Rattle.script.specs.Reading.{MayClose, IsClosed, class_after, font_after, bitmap_after, block_after};
+ghost use Rattle.script.specs.Reading.{with_block, closed, gone_on, takes_comments};
 ghost use Rattle.script.specs.Reading.{after_title, after_screen, after_buffers, after_desktop};
-ghost use Rattle.script.specs.Reading.{no_class, ended, after_class_line, after_block};
-ghost use Rattle.script.specs.Reading.{after_class, after_string, after_early};
-ghost use Rattle.script.specs.Reading.{after_asset, after_other, after_body, after_words};
-ghost use Rattle.script.specs.Fields.{class_in, string_in};
-ghost use Rattle.script.specs.Scripts.{are_there, plain_class, script_for};
-ghost use Rattle.spelling.specs.Words.{words_of};
+ghost use Rattle.script.specs.Reading.{after_class, after_font, after_bitmap, after_string};
+ghost use Rattle.script.specs.Reading.{after_early, after_asset, after_other, after_body, after_block};
+ghost use Rattle.script.specs.Reading.{after_words, after_call_line};
+ghost use Rattle.script.specs.Fields.{class_in, font_in, bitmap_in, string_in, IsTasks};
+ghost use Rattle.script.specs.Scripts.{are_there, plain_class, may_act_with, are_free, script_for};
 
 use crate::fault::{LineError, Reason};
-use crate::fields::{class_in, desktop_in, line_in, screen_in, string_in};
+use crate::fields::{bitmap_in, class_in, desktop_in, font_in, line_in, screen_in, string_in};
 use crate::reasons::{call_reason, header_reason, is_asset_word, is_later_class};
 use crate::script::Script;
-use calls::{Config, Line};
+use bitmap::BitmapDraft;
+use calls::{Act, Config, Line, call_count};
 use class_lines::{ClassLine, class_line};
 use gfx_base::Colour;
+use glyph_font::FontDraft;
 use paint_ops::{Assets, Class, Op};
 use spelling::word_at;
 use std::alloc::{AllocError, Global};
@@ -26,6 +33,12 @@ use std::mem;
 
 /// How many classes a script may have, with the desktop's.
 const MOST_CLASSES: usize = 64;
+
+/// How many fonts a script may have.
+const MOST_FONTS: usize = 8;
+
+/// How many bitmaps a script may have.
+const MOST_BITMAPS: usize = 32;
 
 /// How many operations a class may have.
 const MOST_OPERATIONS: usize = 64;
@@ -36,17 +49,28 @@ const MOST_REACTIONS: usize = 16;
 /// How many call lines a script may have.
 const MOST_LINES: usize = 400_000;
 
+/// How many times over a task may hold the lock.
+const MOST_LOCKS: u8 = 100;
+
+/// What is said by the lines of a block that is open.
+#[derive(Drop)]
+pub enum Block {
+    Class(Class),
+    Font(FontDraft),
+    Bitmap(BitmapDraft),
+}
+
 /// Which line comes next.
-#[derive(Clone, Copy, Debug, PartialEq, Eq)]
+#[derive(Drop)]
 pub enum Stage {
     Title,
     Screen,
     Buffers,
     Desktop,
-    /// A string, a class or a call.
+    /// The first line of an asset, or a call.
     Body,
-    /// A line of a class, or its block's end.
-    Block,
+    /// A line of a block.
+    Block(Block),
 }
 
 /// What the lines so far say.
@@ -59,19 +83,8 @@ pub struct Draft {
     desktop: Colour,
     assets: Assets,
     lines: Vec<Line>,
-    /// The class whose block is open.
-    class: Class,
-}
-
-/// The class that has nothing, where no block is open.
-fn no_class(alloc: Global) -> Class
-    ensures { result ≡ no_class }
-{
-    Class {
-        back: None,
-        ops: Vec::new(alloc),
-        reactions: Vec::new(alloc),
-    }
+    /// How many locks of each task are open. Tasks are numbered from 1.
+    locks: [u8; 17],
 }
 
 /// The class that has a back colour alone.
@@ -147,43 +160,77 @@ fn are_there(assets: &Assets, op: &Op) -> bool
     }
 }
 
-/// Takes a class's line, if it is one.
-fn take_class_line(draft: &mut Draft, line: Option<ClassLine>) -> Result<(), LineError>
-    ensures { Takes result draft.new (after_class_line (draft_of draft.old) line) }
+/// Takes a line of a class, if it is one. It is never the last.
+fn take_class_line(
+    class: &mut Class,
+    assets: &Assets,
+    line: Option<ClassLine>,
+) -> Result<bool, LineError>
+    ensures { TakesBlock result (block.Class class.new) (class_after assets.now class.old line) }
 {
     match line {
         Some(ClassLine::Operation(op))
-            if draft.class.ops.len() < MOST_OPERATIONS && are_there(&draft.assets, &op) => {
-            draft.class.ops.push(op)?;
-            Ok(())
+            if class.ops.len() < MOST_OPERATIONS && are_there(assets, &op) => {
+            class.ops.push(op)?;
+            Ok(false)
         }
-        Some(ClassLine::Reaction(reaction)) if draft.class.reactions.len() < MOST_REACTIONS => {
-            draft.class.reactions.push(reaction)?;
-            Ok(())
+        Some(ClassLine::Reaction(reaction)) if class.reactions.len() < MOST_REACTIONS => {
+            class.reactions.push(reaction)?;
+            Ok(false)
         }
         _ => Err(LineError::Wrong(Reason::Block)),
     }
 }
 
-/// Takes the end of a class's block.
-fn end_class(draft: &mut Draft) -> Result<(), LineError>
-    ensures { Takes result draft.new (Ok (ended (draft_of draft.old))) }
+impl Block {
+    /// Takes a line, and tells whether it was the last.
+    #[tactic(auto, unfolding(crate::specs::Reading::block_after))]
+    fn take(&mut self, assets: &Assets, line: &[u8]) -> Result<bool, LineError>
+        requires { IsBlock self.old }
+        ensures { TakesBlock result self.new (block_after assets.now self.old line.now) }
+    {
+        match self {
+            Block::Class(_) if line == b"end".as_slice() => Ok(true),
+            Block::Class(class) => take_class_line(class, assets, class_line(line)),
+            Block::Font(font) => {
+                font.take(line)?;
+                Ok(font.is_whole())
+            }
+            Block::Bitmap(bitmap) => {
+                bitmap.take(line)?;
+                Ok(bitmap.is_whole())
+            }
+        }
+    }
+}
+
+/// Ends the block that is open, and keeps what it says.
+fn close(draft: &mut Draft) -> Result<(), LineError>
+    requires { MayClose draft.old.stage }
+    ensures { (b : BlockOf) → draft.old.stage ≡ stage.Block b
+        → Takes result draft.new (Ok (closed (draft_of draft.old) b)) }
 {
-    let class = mem::replace(&mut draft.class, no_class(draft.alloc));
-    draft.assets.classes.push(class)?;
-    draft.stage = Stage::Body;
+    match mem::replace(&mut draft.stage, Stage::Body) {
+        Stage::Block(Block::Class(class)) => draft.assets.classes.push(class)?,
+        Stage::Block(Block::Font(font)) => draft.assets.fonts.push(font.into_font())?,
+        Stage::Block(Block::Bitmap(bitmap)) => draft.assets.bitmaps.push(bitmap.into_bitmap())?,
+        _ => {}
+    }
     Ok(())
 }
 
-/// Takes a line in a class's block.
-#[tactic(auto, unfolding(crate::specs::Reading::after_block))]
+/// Takes a line, where a block is open.
 fn take_block(draft: &mut Draft, line: &[u8]) -> Result<(), LineError>
-    ensures { Takes result draft.new (after_block (draft_of draft.old) line.now) }
+    requires { IsDraft (draft_of draft.old) }
+    ensures { (b : BlockOf) → draft.old.stage ≡ stage.Block b
+        → Takes result draft.new (after_block b (draft_of draft.old) line.now) }
 {
-    if line == b"end".as_slice() {
-        end_class(draft)
+    if let Stage::Block(block) = &mut draft.stage
+        && block.take(&draft.assets, line)?
+    {
+        close(draft)
     } else {
-        take_class_line(draft, class_line(line))
+        Ok(())
     }
 }
 
@@ -198,8 +245,36 @@ fn take_class(draft: &mut Draft, rest: Option<&[u8]>) -> Result<(), LineError>
     if usize::from(number) != draft.assets.classes.len() {
         return Err(LineError::Wrong(Reason::Asset));
     }
-    draft.class = plain_class(draft.alloc, colour);
-    draft.stage = Stage::Block;
+    draft.stage = Stage::Block(Block::Class(plain_class(draft.alloc, colour)));
+    Ok(())
+}
+
+/// Takes a line that opens a font, by its words after `font`.
+fn take_font(draft: &mut Draft, rest: Option<&[u8]>) -> Result<(), LineError>
+    ensures { Takes result draft.new (after_font (draft_of draft.old) (font_in (left rest.entry))) }
+{
+    let Some((number, height)) = font_in(rest) else {
+        return Err(LineError::Wrong(Reason::Asset));
+    };
+    if usize::from(number) != draft.assets.fonts.len() {
+        return Err(LineError::Wrong(Reason::Asset));
+    }
+    draft.stage = Stage::Block(Block::Font(FontDraft::new(draft.alloc, height)?));
+    Ok(())
+}
+
+/// Takes a line that opens a bitmap, by its words after `bitmap`.
+fn take_bitmap(draft: &mut Draft, rest: Option<&[u8]>) -> Result<(), LineError>
+    ensures { Takes result draft.new
+        (after_bitmap (draft_of draft.old) (bitmap_in (left rest.entry))) }
+{
+    let Some((number, width, height)) = bitmap_in(rest) else {
+        return Err(LineError::Wrong(Reason::Asset));
+    };
+    if usize::from(number) != draft.assets.bitmaps.len() {
+        return Err(LineError::Wrong(Reason::Asset));
+    }
+    draft.stage = Stage::Block(Block::Bitmap(BitmapDraft::new(draft.alloc, width, height)?));
     Ok(())
 }
 
@@ -225,6 +300,10 @@ fn take_early(draft: &mut Draft, first: &[u8], rest: Option<&[u8]>) -> Result<()
 {
     if first == b"class".as_slice() {
         take_class(draft, rest)
+    } else if first == b"font".as_slice() {
+        take_font(draft, rest)
+    } else if first == b"bitmap".as_slice() {
+        take_bitmap(draft, rest)
     } else {
         take_string(draft, rest)
     }
@@ -259,19 +338,48 @@ fn take_other(draft: &mut Draft, text: &[u8]) -> Result<(), LineError>
     }
 }
 
+/// Whether a task with so many open locks may do that.
+fn may_act(locks: u8, act: &Act) -> bool
+    ensures { result ≡ may_act_with locks act.now }
+{
+    match act {
+        Act::Call(_) => true,
+        Act::Lock => locks < MOST_LOCKS,
+        Act::Unlock => 0 < locks,
+    }
+}
+
+/// Takes a call line.
+fn take_call(draft: &mut Draft, line: Line) -> Result<(), LineError>
+    requires { IsTasks line }
+    ensures { Takes result draft.new (after_call_line (draft_of draft.old) line) }
+{
+    let Line::Task { task, act } = line;
+    let locks = draft.locks[usize::from(task)];
+    if !may_act(locks, &act) {
+        return Err(LineError::Wrong(Reason::Lock));
+    }
+    if draft.lines.len() >= MOST_LINES {
+        return Err(LineError::Wrong(Reason::Many));
+    }
+    match act {
+        Act::Call(_) => {}
+        Act::Lock => draft.locks[usize::from(task)] = locks + 1,
+        Act::Unlock => draft.locks[usize::from(task)] = locks - 1,
+    }
+    draft.lines.push(line)?;
+    Ok(())
+}
+
 /// Takes a line after the header. Most are call lines, so those come first.
 #[tactic(auto, unfolding(crate::specs::Reading::after_body))]
 fn take_body(draft: &mut Draft, text: &[u8]) -> Result<(), LineError>
     ensures { Takes result draft.new (after_body (draft_of draft.old) text.now) }
 {
-    let Some(line) = line_in(text) else {
-        return take_other(draft, text);
-    };
-    if draft.lines.len() >= MOST_LINES {
-        return Err(LineError::Wrong(Reason::Many));
+    match line_in(text) {
+        Some(line) => take_call(draft, line),
+        None => take_other(draft, text),
     }
-    draft.lines.push(line)?;
-    Ok(())
 }
 
 impl Draft {
@@ -280,8 +388,8 @@ impl Draft {
     {
         let assets = Assets {
             classes: Vec::with_capacity(alloc, MOST_CLASSES)?,
-            fonts: Vec::new(alloc),
-            bitmaps: Vec::new(alloc),
+            fonts: Vec::with_capacity(alloc, MOST_FONTS)?,
+            bitmaps: Vec::with_capacity(alloc, MOST_BITMAPS)?,
             strings: Vec::new(alloc),
         };
         Ok(Draft {
@@ -292,12 +400,20 @@ impl Draft {
             desktop: Colour::default(),
             assets,
             lines: Vec::new(alloc),
-            class: no_class(alloc),
+            locks: [0; 17],
         })
+    }
+
+    /// Whether comments may stand where the next line does.
+    pub fn takes_comments(&self) -> bool
+        ensures { result ≡ takes_comments self.now.stage }
+    {
+        !matches!(self.stage, Stage::Block(Block::Font(_) | Block::Bitmap(_)))
     }
 
     /// Takes a line that is no comment.
     pub fn take(&mut self, line: &[u8]) -> Result<(), LineError>
+        requires { IsDraft (draft_of self.old) }
         ensures { Takes result self.new (after_words self.old.stage (draft_of self.old) line.now) }
     {
         match self.stage {
@@ -306,8 +422,16 @@ impl Draft {
             Stage::Buffers => take_buffers(self, line),
             Stage::Desktop => take_desktop(self, line),
             Stage::Body => take_body(self, line),
-            Stage::Block => take_block(self, line),
+            Stage::Block(_) => take_block(self, line),
         }
+    }
+
+    /// Whether no task holds the lock.
+    #[tactic(auto, unfolding(crate::specs::Scripts::are_free))]
+    pub fn is_free(&self) -> bool
+        ensures { result ≡ are_free (draft_of self.now).locks }
+    {
+        self.locks.iter().all(|count| *count == 0)
     }
 
     /// The script, where all lines were read.
@@ -321,7 +445,7 @@ impl Draft {
                 h: self.height,
                 buffers: 1,
                 desktop: self.desktop,
-                calls: self.lines.len() as u32,
+                calls: call_count(&self.lines) as u32,
             },
             assets: self.assets,
             lines: self.lines,

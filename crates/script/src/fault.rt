@@ -3,7 +3,11 @@
 ghost use Rattle.std.specs.Prelude.{◌≡◌};
 ghost use Rattle.script.specs.declared.fault.LineError.TheVariants as line;
 ghost use Rattle.script.specs.declared.fault.ScriptRefused.TheVariants as read;
+ghost use Rattle.script.specs.BlockErrors.{of_font, of_bitmap};
 
+use bitmap::BitmapLineError;
+use gfx_base::Memory;
+use glyph_font::FontLineError;
 use std::alloc::{AllocError, AllocFailed};
 use thiserror::Error;
 
@@ -18,17 +22,19 @@ pub enum Reason {
     Later,
     /// It isn't the header's line of its place.
     Header,
-    /// It doesn't belong in a class's block.
+    /// It doesn't belong in the block of a font, a bitmap or a class that is open.
     Block,
-    /// It opens a class after a call line.
+    /// It begins a font, a bitmap, a string or a class after a call line.
     Late,
-    /// It opens a class, and is misspelled, or has the wrong number.
+    /// It begins such an asset, and is misspelled, has the wrong number or is one too many.
     Asset,
     /// It is no call line.
     Call,
+    /// It gives back a lock that its task doesn't hold, or takes the 101st.
+    Lock,
     /// It is one call too many.
     Many,
-    /// The file ends before it, in the header or in a block.
+    /// The file ends before it, in the header, in a block or with an open lock.
     End,
 }
 
@@ -68,5 +74,35 @@ impl<T: Drop> From<AllocFailed<T>> for LineError {
 
     fn from(_: AllocFailed<T>) -> LineError {
         LineError::Memory
+    }
+}
+
+impl From<Memory> for LineError {
+    ghost from_gives = { λ _ e. e ≡ line.Memory };
+
+    fn from(_: Memory) -> LineError {
+        LineError::Memory
+    }
+}
+
+impl From<FontLineError> for LineError {
+    ghost from_gives = { λ e f. f ≡ of_font e };
+
+    fn from(error: FontLineError) -> LineError {
+        match error {
+            FontLineError::Memory => LineError::Memory,
+            FontLineError::Wrong => LineError::Wrong(Reason::Block),
+        }
+    }
+}
+
+impl From<BitmapLineError> for LineError {
+    ghost from_gives = { λ e f. f ≡ of_bitmap e };
+
+    fn from(error: BitmapLineError) -> LineError {
+        match error {
+            BitmapLineError::Memory => LineError::Memory,
+            BitmapLineError::Wrong => LineError::Wrong(Reason::Block),
+        }
     }
 }

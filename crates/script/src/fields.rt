@@ -1,10 +1,10 @@
 //! What the lines of a script say: the screen's sides, colours, classes, strings and calls.
 
-ghost use Rattle.std.specs.Prelude.{◌≡◌};
+ghost use Rattle.std.specs.Prelude.{◌≡◌, ◌≤◌, IfSome};
 ghost use Rattle.spelling.specs.Words.{Gives, left, words_of};
 ghost use Rattle.spelling.specs.Fields.{Reads};
-ghost use Rattle.calls.specs.Words.{call_with, call_at, line_of};
-ghost use Rattle.script.specs.Fields.{screen_in, desktop_in, class_in, text_in, string_in};
+ghost use Rattle.calls.specs.Words.{call_with, act_at, line_of};
+ghost use Rattle.script.specs.Fields.{screen_in, desktop_in, class_in, font_in, bitmap_in, text_in, string_in, IsTasks};
 
 use calls::{Act, Call, Line, Word};
 use gfx_base::Colour;
@@ -50,6 +50,41 @@ pub fn class_in(rest: Option<&[u8]>) -> Option<(u16, Colour)>
     let colour = args.colour()?;
     if args.is_done() {
         Some((number, colour))
+    } else {
+        None
+    }
+}
+
+/// The number and the height that the words after `font` say.
+#[tactic(auto, unfolding(crate::specs::Fields::font_in))]
+pub fn font_in(rest: Option<&[u8]>) -> Option<(u16, u8)>
+    ensures value { Gives (λ font. (font.0, (font.1, tt))) result (font_in (left rest.entry)) }
+    ensures within { IfSome result (λ font. (1 ≤ font.1) × (font.1 ≤ 32)) }
+{
+    let mut args = Args { rest };
+    let number = args.natural(0, 7)?;
+    let height = args.natural(1, 32)?;
+    if args.is_done() {
+        Some((number, height as u8))
+    } else {
+        None
+    }
+}
+
+/// The number, the width and the height that the words after `bitmap` say.
+#[tactic(auto, unfolding(crate::specs::Fields::bitmap_in))]
+pub fn bitmap_in(rest: Option<&[u8]>) -> Option<(u16, u16, u16)>
+    ensures value { Gives (λ bitmap. (bitmap.0, (bitmap.1, (bitmap.2, tt)))) result
+        (bitmap_in (left rest.entry)) }
+    ensures within { IfSome result
+        (λ b. ((1 ≤ b.1) × (b.1 ≤ 256)) × ((1 ≤ b.2) × (b.2 ≤ 256))) }
+{
+    let mut args = Args { rest };
+    let number = args.natural(0, 31)?;
+    let width = args.natural(1, 256)?;
+    let height = args.natural(1, 256)?;
+    if args.is_done() {
+        Some((number, width, height))
     } else {
         None
     }
@@ -131,27 +166,32 @@ fn call_with(word: Word, args: &mut Args) -> Option<Call>
     }
 }
 
-#[tactic(auto, unfolding(calls::specs::Words::call_at))]
-fn call_at(args: &mut Args) -> Option<Call>
-    ensures { Reads (λ call. call) result (left args.new.rest) (call_at (left args.old.rest)) }
+/// What a word and the fields after it say that a task does.
+#[tactic(auto, unfolding(calls::specs::Words::act_at))]
+fn act_at(args: &mut Args) -> Option<Act>
+    ensures { Reads (λ a. a) result (left args.new.rest) (act_at (left args.old.rest)) }
 {
-    let word = Word::of(args.word()?)?;
-    call_with(word, args)
+    let name = args.word()?;
+    if name == b"lock".as_slice() {
+        Some(Act::Lock)
+    } else if name == b"unlock".as_slice() {
+        Some(Act::Unlock)
+    } else {
+        Some(Act::Call(call_with(Word::of(name)?, args)?))
+    }
 }
 
 /// The call line that a line says.
 #[tactic(auto, unfolding(calls::specs::Words::line_of))]
 pub fn line_in(line: &[u8]) -> Option<Line>
-    ensures { result ≡ line_of (words_of line.now) }
+    ensures value { result ≡ line_of (words_of line.now) }
+    ensures within { IfSome result IsTasks }
 {
     let mut args = Args { rest: Some(line) };
     let task = args.natural(1, 16)?;
-    let call = call_at(&mut args)?;
+    let act = act_at(&mut args)?;
     if args.is_done() {
-        Some(Line::Task {
-            task,
-            act: Act::Call(call),
-        })
+        Some(Line::Task { task, act })
     } else {
         None
     }

@@ -5,7 +5,7 @@ ghost use Rattle.script.specs.declared.fault.ScriptRefused.{ScriptRefused};
 ghost use Rattle.spelling.specs.Items.{is_comment};
 ghost use Rattle.script.specs.Scripts.{Script, IsScript, IsReady};
 ghost use Rattle.script.specs.Faults.{IsError};
-ghost use Rattle.script.specs.Reading.{draft_of, after_line, read_of, Takes, Reads, Says};
+ghost use Rattle.script.specs.Reading.{draft_of, after_line, read_of, Takes, Reads, Says, IsDraft};
 
 use crate::draft::{Draft, Stage};
 use crate::fault::{LineError, Reason, ScriptFault, ScriptRefused};
@@ -24,12 +24,13 @@ fn is_comment(line: &[u8]) -> bool
 
 #[tactic(auto, unfolding(crate::specs::Reading::after_line))]
 fn take_line(draft: &mut Draft, line: &[u8]) -> Result<(), LineError>
+    requires { IsDraft (draft_of draft.old) }
     ensures { Takes result draft.new (after_line (draft_of draft.old) line.now) }
 {
     if !is_printable(line) {
         return Err(LineError::Wrong(Reason::Ascii));
     }
-    if is_comment(line) {
+    if is_comment(line) && draft.takes_comments() {
         return Ok(());
     }
     draft.take(line)
@@ -62,7 +63,7 @@ fn read_lines(alloc: Global, text: &[u8]) -> Result<Script, ScriptRefused>
         rest = after;
     }
     match draft.stage {
-        Stage::Body => Ok(draft.into_script()),
+        Stage::Body if draft.is_free() => Ok(draft.into_script()),
         _ => Err(fault(number + 1, Reason::End)),
     }
 }

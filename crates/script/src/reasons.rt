@@ -9,15 +9,15 @@ use crate::fault::Reason;
 use spelling::{begins_with, natural_in, word_at};
 
 /// First words of assets' lines.
-const ASSET_WORDS: &[u8] = b"string class";
+const ASSET_WORDS: &[u8] = b"string class font bitmap";
 
 /// First words outside blocks, of forms that this version doesn't build.
-const LATER_WORDS: &[u8] = b"font bitmap display viewer done";
+const LATER_WORDS: &[u8] = b"display viewer done";
 
 /// Second words, after a task, of such forms.
 const LATER_CALLS: &[u8] =
     b"set_trans set_memdev set_value send select colour bk_colour text_mode font save restore fill \
-    frame line bitmap text dev_create dev_delete dev_select dev_copy begin end lock unlock";
+    frame line bitmap text dev_create dev_delete dev_select dev_copy begin end";
 
 /// Whether the word is one of those in the text.
 #[tactic(auto, unfolding(crate::specs::Later::is_one_of))]

@@ -1,8 +1,8 @@
-use Rattle.std.proofs.Common.{◌≡◌, List, ℕ, length, Result, sym, subst, ap, ◌∙◌, arith}
+use Rattle.std.proofs.Common.{◌≡◌, List, ℕ, length, Result, sym, subst, ap, ◌∙◌}
 use Rattle.std.proofs.lemmas.Result.{err_from_is_err_and}
 use Rattle.outside.specs.Logs.{SinkLog, Wrote}
 use Rattle.outside.proofs.CallerLemmas.{Partly-step, Partly-broken, Partly-left, Partly-last}
-use Rattle.mtgui_top.proofs.PlayLemmas.{stepped, replies-step, counted-more, after_lines-more, replies-all, summary-last}
+use Rattle.mtgui_top.proofs.PlayLemmas.{stepped, all-made, replies-step, counted-more, after_lines-more, replies-all, summary-last}
 use Rattle.mtgui_top.proofs.play.perform.Goals as goal
 
 wrote_is : {T E : Type 0} (r : Result T E) (a b : SinkLog) (t u : List ℕ) → t ≡ u → Wrote r a b t → Wrote r a b u
@@ -19,7 +19,7 @@ loop-line-preserved g c =
     let kept = c.loop-line.invariant in
     record {
       setup = done.setup ∙ kept.setup;
-      made = let more = done.made in let made = kept.made in omega (arith, more, made);
+      made = all-made old new lines i _ _ c.loop-line-test.true done kept.made;
       refused = counted-more setup old new lines i _ _ c.loop-line-test.true kept.setup done kept.refused;
       last = sym (after_lines-more setup old.state new.state lines i _ c.loop-line-test.true (stepped setup old new _ kept.setup done)) ∙ kept.last;
       wrote = Partly-step _ _ _ _ _ _ _ kept.wrote (replies-step setup old new lines i _ _ c.loop-line-test.true kept.setup done) c.in_ok-perform_line.ensures.wrote;
@@ -40,4 +40,4 @@ returns g c =
     let i = c.loop-line.line-index in
     let kept = c.loop-line.invariant in
     let last = summary-last setup s now lines i c.loop-line.gui.refused _ c.loop-line-test.false kept.refused kept.last (c.len.ensures.value ∙ ap length c.windows.ensures) in
-    Partly-last c.write_summary.result _ _ _ _ _ (Partly-left _ _ _ _ _ kept.wrote (replies-all setup now lines i _ c.loop-line-test.false)) (wrote_is c.write_summary.result _ _ _ _ last (rw c.refused.ensures at c.write_summary.ensures))
+    Partly-last c.write_summary.result _ _ _ _ _ (Partly-left _ _ _ _ _ kept.wrote (replies-all setup now lines i _ c.loop-line-test.false)) (wrote_is c.write_summary.result _ _ _ _ last (rw (c.refused-refused.ensures, c.call_count.ensures.value) at c.write_summary.ensures))

@@ -1,0 +1,507 @@
+//! The first faults of files that are no scripts.
+
+use script::{Reason, ScriptFault, ScriptRefused, read};
+use std::alloc::Global;
+
+/// Whether this is the first fault of a text.
+pub fn is_fault(alloc: Global, text: &[u8], line: u32, why: Reason) -> bool {
+    match read(alloc, text) {
+        Err(ScriptRefused::Fault(fault)) => fault == ScriptFault { line, why },
+        _ => false,
+    }
+}
+
+/// Whether this is the first fault of a text that begins so.
+fn is_fault_after(alloc: Global, front: &str, rest: &str, line: u32, why: Reason) -> bool {
+    match format!(in alloc; "{front}{rest}") {
+        Ok(text) => is_fault(alloc, text.as_bytes(), line, why),
+        Err(_) => false,
+    }
+}
+
+/// The first lines of a script, as far as each.
+const TITLE: &str = "mtgui 1\n";
+
+const SCREEN: &str = "mtgui 1\nscreen 8 4\n";
+
+const BUFFERS: &str = "mtgui 1\nscreen 8 4\nbuffers 1\n";
+
+/// The whole header, of four lines.
+pub const HEADER: &str = "mtgui 1\nscreen 8 4\nbuffers 1\ndesktop 000000\n";
+
+/// The header and the first line of a class.
+const CLASS: &str = "mtgui 1\nscreen 8 4\nbuffers 1\ndesktop 000000\nclass 1 000000\n";
+
+/// Eleven lines: a font, a bitmap and a string, and the first line of a class.
+const ASSETS: &str = "mtgui 1\nscreen 8 4\nbuffers 1\ndesktop 000000\nfont 0 1\nend\n\
+    bitmap 0 1 1\n-\nend\nstring 0 a\nclass 1 000000\n";
+
+/// The header and the first line of a font.
+const FONT: &str = "mtgui 1\nscreen 8 4\nbuffers 1\ndesktop 000000\nfont 0 1\n";
+
+/// Seven lines: a font, and of its first glyph one row of two.
+const GLYPH: &str = "mtgui 1\nscreen 8 4\nbuffers 1\ndesktop 000000\nfont 0 2\nglyph 65 2\n#.\n";
+
+/// The header and the first line of a bitmap.
+const BITMAP: &str = "mtgui 1\nscreen 8 4\nbuffers 1\ndesktop 000000\nbitmap 0 3 2\n";
+
+/// The line and the reason of the first fault of some files, what all of them begin with, and the
+/// rest of each, which `|` parts.
+type Faulty = (u32, Reason, &'static str, &'static str);
+
+/// The first of the files whose first fault is another one, by its line and the rest of its text.
+fn first_other(alloc: Global, files: &[Faulty]) -> Option<(u32, &'static str)> {
+    for (line, why, front, rests) in files {
+        for rest in rests.split('|') {
+            if !is_fault_after(alloc, front, rest, *line, *why) {
+                return Some((*line, rest));
+            }
+        }
+    }
+    None
+}
+
+/// Faults in the header.
+const IN_HEADERS: [Faulty; 11] = [
+    // A line is missing, comes twice, or is spelled otherwise.
+    (
+        1,
+        Reason::Header,
+        "",
+        "screen 8 4\nbuffers 1\n|mtgui 0\n|mtgui 2\nscreen 0 0\n|mtgui 01\n|mtgui  1\n\
+        |mtgui 1 \n| mtgui 1\n|MTGUI 1\n|mtgui\n|mtgui 1 1\n| \nmtgui 1\n|font 0 1\n\
+        |class 1 -\n|display tick\n|1 exec\n",
+    ),
+    (
+        2,
+        Reason::Header,
+        TITLE,
+        "buffers 1\n|mtgui 1\n|desktop 000000\n|font 0 1\n|screen 08 4\n|screen  8 4\n\
+        |screen 8 4 \n|screen -1 4\n|screen +8 4\n|screen 8\n|screen 8 4 1\n|screen 0 4\n\
+        |screen 1025 4\n|screen 8 0\n|screen 8 769\n|screen 1025 768\n|screen 1024 769\n\
+        |screen 65537 1\n|screen 8 4294967297\n|screen\n|Screen 8 4\n|string 0 a\n",
+    ),
+    (
+        3,
+        Reason::Header,
+        SCREEN,
+        "desktop 000000\n|screen 8 4\n|buffers 0\n|buffers 4\n|buffers 01\n|buffers 1 \n\
+        |buffers 2 \n|buffers\n|buffers 1 1\n|buffers -1\n|buffers 10\n|Buffers 1\n\
+        |bitmap 0 1 1\n",
+    ),
+    (
+        4,
+        Reason::Header,
+        BUFFERS,
+        "1 exec\n|buffers 1\n|desktop 00000\n|desktop 0000000\n|desktop 0000ff\n\
+        |desktop  000000\n|desktop 000000 \n|desktop -\n|desktop\n|desktop 000000 1\n\
+        |desktop 00000G\n|Desktop 000000\n|class 1 -\n|done\n",
+    ),
+    // Not built yet.
+    (1, Reason::Later, "", "buffers 2\n|buffers 3\nmtgui 2\n"),
+    (2, Reason::Later, TITLE, "buffers 2\n|buffers 3\n"),
+    (3, Reason::Later, SCREEN, "buffers 2\n|buffers 3\n"),
+    (4, Reason::Later, BUFFERS, "buffers 2\n|buffers 3"),
+    // Bytes that no line has.
+    (
+        1,
+        Reason::Ascii,
+        "",
+        "mtgui 1\r\n|#\t\n|#\u{7F}\n|# \u{E9}\nmtgui 2\n|buffers 2\r\n|mtgui 2\u{1F}\n\
+        |\u{200}mtgui 1\n",
+    ),
+    (
+        2,
+        Reason::Ascii,
+        TITLE,
+        "screen 8 4\0\n|\tscreen 8 4\n|screen 0 0\u{7F}\n",
+    ),
+    (
+        4,
+        Reason::Ascii,
+        BUFFERS,
+        "desktop 000000\u{200}\n|desktop 00\t\n|\u{1F}\n",
+    ),
+];
+
+#[test]
+fn the_first_fault_of_a_header(rt: HostRuntime) {
+    assert_eq!(rt; first_other(rt.alloc(), &IN_HEADERS), None);
+}
+
+/// Files that end too early, with and without the end of their last line.
+const CUT: [Faulty; 8] = [
+    (1, Reason::End, "", ""),
+    (2, Reason::End, "", "\n|#|mtgui 1|mtgui 1\n"),
+    (3, Reason::End, SCREEN, ""),
+    (3, Reason::End, TITLE, "#|#\n|screen 8 4"),
+    (
+        4,
+        Reason::End,
+        "",
+        "# only\n\n# comments\n|mtgui 1\nscreen 8 4\nbuffers 1|mtgui 1\nscreen 8 4\n\n",
+    ),
+    (5, Reason::End, BUFFERS, "#\n|#"),
+    (
+        6,
+        Reason::End,
+        HEADER,
+        "class 1 000000\n|class 1 000000|font 0 1\n|font 0 1|bitmap 0 1 1\n|bitmap 0 1 1",
+    ),
+    (
+        8,
+        Reason::End,
+        HEADER,
+        "class 1 000000\n\n# open\n|class 1 000000\nfill 0 0 1 1 000000\non 1 set 0 1\n\
+        |font 0 1\nglyph 65 1\n#|font 0 2\nglyph 65 1\n#\n|font 0 1\nglyph 65 1\n.\n\
+        |bitmap 0 3 2\n-*3\n-*3\n|bitmap 0 3 3\n-*3\n-*3|string 0 a\n#\nclass 1 000000",
+    ),
+];
+
+/// Faults of assets' first lines, and of strings.
+const IN_OPENINGS: [Faulty; 11] = [
+    (
+        5,
+        Reason::Asset,
+        HEADER,
+        "class 0 000000\n|class 2 000000\n|class 01 000000\n|class 1 00000\n|class 1 0000000\n\
+        |class 1 0000ff\n|class 1 000000 1\n|class  1 000000\n|class 1\n|class\n\
+        |class 64 000000\n|class -1 000000\n|class 1 000000 \n|class x 000000\n",
+    ),
+    (
+        5,
+        Reason::Asset,
+        HEADER,
+        "font\n|font 0\n|font 0 0\n|font 0 33\n|font 1 1\n|font  0 1\n|font 0  1\n|font 00 1\n\
+        |font 0 01\n|font 0 1 1\n|font 0 1 \n|font 8 1\n|font -0 1\n|font x 1\n|font 0 x\n\
+        |font 0 257\n|font 4294967296 1\n",
+    ),
+    (
+        5,
+        Reason::Asset,
+        HEADER,
+        "bitmap\n|bitmap 0\n|bitmap 0 1\n|bitmap 0 0 1\n|bitmap 0 1 0\n|bitmap 0 257 1\n\
+        |bitmap 0 1 257\n|bitmap 1 1 1\n|bitmap  0 1 1\n|bitmap 00 1 1\n|bitmap 0 01 1\n\
+        |bitmap 0 1 1 1\n|bitmap 0 1 1 \n|bitmap 32 1 1\n|bitmap 0 65537 1\n\
+        |bitmap 0 1 4294967297\n|bitmap 0 1 -1\n",
+    ),
+    (
+        5,
+        Reason::Asset,
+        HEADER,
+        "string\n|string \n|string 0\n|string  0 a\n|string 00 a\n|string -0 a\n|string 1 a\n\
+        |string a 0\n|string +0 a\n|string 256 a\n|string 4294967296 a\n|string 0a b\n\
+        |string 0 01234567890123456789012345678901234567890123456789012345678901234\n",
+    ),
+    // A number comes twice or is left out; each kind has numbers of its own.
+    (
+        6,
+        Reason::Asset,
+        HEADER,
+        "string 0 a\nstring 0 a\n|string 0 a\nstring 2 b\n|string 0 a\nfont 1 1\nend\n\
+        |string 0 a\nbitmap 1 1 1\n-\nend\n|string 0 a\nclass 2 000000\nend\n",
+    ),
+    (
+        7,
+        Reason::Asset,
+        HEADER,
+        "class 1 000000\nend\nclass 1 000000\nend\n|class 1 000000\nend\nclass 3 000000\nend\n\
+        |font 0 1\nend\nfont 0 1\nend\n|font 0 1\nend\nfont 2 1\nend\n\
+        |font 0 1\nend\nbitmap 1 1 1\n-\nend\n|font 0 1\nend\nclass 2 000000\nend\n",
+    ),
+    (
+        8,
+        Reason::Asset,
+        HEADER,
+        "bitmap 0 1 1\n-\nend\nbitmap 0 1 1\n-\nend\n|bitmap 0 1 1\n-\nend\nbitmap 2 1 1\n-\nend\n\
+        |bitmap 0 1 1\n-\nend\nfont 1 1\nend\n|bitmap 0 1 1\n-\nend\nclass\n",
+    ),
+    // They come after a call.
+    (
+        6,
+        Reason::Late,
+        HEADER,
+        "1 exec\nclass 1 000000\nend\n|1 create 1 0 0 1 1 1\nclass 1 000000\nend\n\
+        |1 exec\nclass x\n|1 exec\nclass\n|1 exec\nstring 0 a\n|1 scan\nstring\n\
+        |1 exec\nstring 9 \n|1 exec\nfont 0 1\nend\n|1 exec\nfont\n|1 exec\nfont 9 99\n\
+        |1 exec\nbitmap 0 1 1\n-\nend\n|1 exec\nbitmap\n|1 exec\nbitmap 99 0 0\n",
+    ),
+    (
+        8,
+        Reason::Late,
+        HEADER,
+        "1 exec\n\n# \nfont 0 1\n|1 exec\n1 scan\n\nstring 0 a\n",
+    ),
+    // Bytes that no line has.
+    (
+        5,
+        Reason::Ascii,
+        HEADER,
+        "font 0 1\r\n|bitmap 0 1\t1\n|class 1 -\u{1F}\n|string 0 a\tb\n|string 0 \u{E9}\n\
+        |string 9 \u{7F}\n|string 0 \u{200}\n",
+    ),
+    (
+        6,
+        Reason::Ascii,
+        HEADER,
+        "1 exec\nfont 0 1\r\n|1 exec\nstring 0 a\t\n",
+    ),
+];
+
+#[test]
+fn the_first_fault_of_cut_files_and_of_openings(rt: HostRuntime) {
+    assert_eq!(rt; first_other(rt.alloc(), &CUT), None);
+    assert_eq!(rt; first_other(rt.alloc(), &IN_OPENINGS), None);
+}
+
+/// Faults in classes.
+const IN_CLASSES: [Faulty; 9] = [
+    // Operations.
+    (
+        6,
+        Reason::Block,
+        CLASS,
+        "frame\n|fill 0 0 1 000000\n|fill 0 0 1 1 1 000000\n|fill 0 0 1 1\n\
+        |fill 0 0 1 w+0 000000\n|fill 0 0 1 w-0 000000\n|fill 0 0 1 w-32769 000000\n\
+        |fill 0 0 1 w+32768 000000\n|fill 0 0 1 +5 000000\n|fill 0 0 1 05 000000\n\
+        |fill 0 0 1 32768 000000\n|fill 0 0 -32769 1 000000\n|fill 0 0 v16 1 000000\n\
+        |vline 0 0 v16 000000\n|hline 0 1 v 000000\n|hline 0 1 v00 000000\n\
+        |hline 0 1 2 00000f\n|hline 0 1 2 -\n|line 0 0 1 1\n|rect 0 0 1 1 000000\n\
+        |Fill 0 0 1 1 000000\n|fill  0 0 1 1 000000\n| fill 0 0 1 1 000000\n\
+        |fill 0 0 1 1 000000 \n",
+    ),
+    // Reactions.
+    (
+        6,
+        Reason::Block,
+        CLASS,
+        "on 1 set 16 0\n|on 1 set 0 b\n|on 256 up 1\n|on 1 up 256\n|on 1 up a\n\
+        |on 1 add 0 32768\n|on 1 add 16 a\n|on 1 set 0\n|on 1 set 0 w\n|on 1 sets 0 0\n|on 1\n\
+        |on\n|on  1 up 2\n|On 1 up 2\n|on 01 up 2\n|on -1 up 2\n|on 1 up 2 \n|set 0 0\n|up 1\n",
+    ),
+    // What isn't there, or comes only later in the file.
+    (
+        6,
+        Reason::Block,
+        HEADER,
+        "class 1 000000\nbitmap 0 0 0\n|class 1 000000\nnumber 0 0 0 000000 1\n\
+        |class 1 000000\ntext 0 0 0 000000 0\n\
+        |class 1 000000\nbitmap 0 0 0\nend\nbitmap 0 1 1\n-\nend\n",
+    ),
+    (
+        7,
+        Reason::Block,
+        HEADER,
+        "string 0 a\nclass 1 000000\ntext 0 0 0 000000 0\nend\nfont 0 1\nend\n",
+    ),
+    (
+        8,
+        Reason::Block,
+        HEADER,
+        "font 0 1\nend\nclass 1 000000\ntext 0 0 0 000000 0\nend\nstring 0 a\n",
+    ),
+    (
+        12,
+        Reason::Block,
+        ASSETS,
+        "bitmap 1 0 0\n|text 1 0 0 000000 0\n|text 0 0 0 000000 1\n|number 1 0 0 000000 0\n\
+        |bitmap 255 0 0\n|text 0 0 0 000000 255\n|bitmap 256 0 0\n|bitmap 0 0\n|bitmap 0 0 0 0\n\
+        |bitmap 0 0 v16\n|text 0 0 0 000000\n|text 0 0 0 000000 256\n|text 0 0 0 - 0\n\
+        |number 0 0 0 000000\n|number 0 0 0 000000 a\n|number 0 0 0 000000 w+0\n",
+    ),
+    // Lines that belong elsewhere.
+    (
+        6,
+        Reason::Block,
+        CLASS,
+        "end \n| end\n|END\n| \n|class 2 000000\n|class 2 -\n|font 0 1\n|bitmap 0 1 1\n\
+        |string 0 a\n|1 exec\n|1 save\n|display tick\n|done\n|buffers 2\n|mtgui 1\n|glyph 65 1\n",
+    ),
+    (8, Reason::Block, CLASS, "\n# \n end\n|on 1 up 2\n\nfill\n"),
+    // Bytes that no line has.
+    (
+        6,
+        Reason::Ascii,
+        CLASS,
+        "fill 0 0 1 1 000000\r\n|#\u{1F}\n|end\0\n|rect\t\n|\u{7F}\n|on 256 up 1\u{200}\n",
+    ),
+];
+
+#[test]
+fn the_first_fault_of_classes(rt: HostRuntime) {
+    assert_eq!(rt; first_other(rt.alloc(), &IN_CLASSES), None);
+}
+
+/// Faults in fonts and bitmaps.
+const IN_PICTURES: [Faulty; 10] = [
+    // Lines that open no glyph.
+    (
+        6,
+        Reason::Block,
+        FONT,
+        "glyf 65 1\n#\n|Glyph 65 1\n|glyph\n|glyph 65\n|glyph 65 1 1\n|glyph 065 1\n\
+        |glyph 65 01\n|glyph  65 1\n| glyph 65 1\n|glyph 65 1 \n|glyph 31 1\n|glyph 127 1\n\
+        |glyph 65 0\n|glyph 65 33\n|glyph -65 1\n|glyph A 1\n|glyph 321 1\n|\nend\n|# x\nend\n\
+        |#\nend\n|.\n|end \n| end\n|END\n|end 0\n|1 exec\n|mtgui 1\n|fill 0 0 1 1 000000\n",
+    ),
+    // Lines that are no row.
+    (
+        7,
+        Reason::Block,
+        FONT,
+        "glyph 65 2\n#\n|glyph 65 2\n#.#\n|glyph 65 2\n\n|glyph 65 2\n#*\n|glyph 65 2\n# \n\
+        |glyph 65 3\n# x\n|glyph 65 3\nend\n|glyph 65 1\nglyph 66 1\n#\nend\n",
+    ),
+    (
+        8,
+        Reason::Block,
+        GLYPH,
+        "end\n|\n#.\nend\n|#\n|..#\n|# comment\n|#x\n| #\n|.*\n|glyph 66 1\n#\n#\nend\n",
+    ),
+    // Codes that don't rise, and a row too many.
+    (
+        8,
+        Reason::Block,
+        FONT,
+        "glyph 65 1\n#\nglyph 65 1\n#\nend\n|glyph 65 1\n#\nglyph 64 1\n#\nend\n\
+        |glyph 65 1\n#\nglyph 32 1\n#\nend\n|glyph 126 1\n#\nglyph 127 1\n#\nend\n\
+        |glyph 65 1\n#\n#\nend\n|glyph 65 1\n#\n\nend\n|glyph 65 1\n#\n# x\nend\n\
+        |glyph 65 1\n.\n.\nend\n|glyph 65 1\n.\nend \n",
+    ),
+    // Runs of three points.
+    (
+        6,
+        Reason::Block,
+        BITMAP,
+        "FF0000\n|FF0000 FF0000\n|FF0000*2\n|FF0000*4\n|FF0000*2 -*2\n|FF0000*3 -\n|- - - -\n\
+        |FF0000*1 -*2\n|-*2 -*1\n|FF0000*257\n|FF0000*0 -*3\n|FF0000*\n|FF0000*03\n|*3\n\
+        |ff0000*3\n|Ff0000*3\n|FF000*3\n|FF00000*3\n|--*3\n|-  -*2\n| -*3\n|-*3 \n|-*+3\n\
+        |FF0000*-3\n|FF0000 *2\n|FF0000* 3\n|-*3*1\n|-*4294967299\n",
+    ),
+    (
+        6,
+        Reason::Block,
+        BITMAP,
+        "\n-*3\n-*3\nend\n|# x\n-*3\n-*3\nend\n|#\n|end\n|...\n|1 exec\n|mtgui 1\n\
+        |fill 0 0 1 1 000000\n",
+    ),
+    // Rows too few and too many.
+    (
+        7,
+        Reason::Block,
+        BITMAP,
+        "-*3\nend\n|-*3\n\n|-*3\n#\n|-*3\n-*2\n",
+    ),
+    (
+        8,
+        Reason::Block,
+        BITMAP,
+        "-*3\n-*3\n-*3\nend\n|-*3\n-*3\n\nend\n|-*3\n-*3\n# x\nend\n|-*3\n-*3\nend \n\
+        |-*3\n-*3\nEND\n|-*3\n-*3\n1 exec\n",
+    ),
+    // Bytes that no line has.
+    (
+        6,
+        Reason::Ascii,
+        FONT,
+        "glyph 65 1\t\n|\u{7F}\n|end\r\n|# \u{1F}\n|glyph 65 1\u{200}\n",
+    ),
+    (
+        7,
+        Reason::Ascii,
+        "mtgui 1\nscreen 8 4\nbuffers 1\ndesktop 000000\n",
+        "font 0 1\nglyph 65 1\n#\r\n|font 0 1\nglyph 65 2\n#\u{200}\n|bitmap 0 3 2\n-*3\n-*3\r\n\
+        |bitmap 0 3 2\n-*3\nFF\t\n|bitmap 0 3 2\n-*3\n\u{7F}\n|bitmap 0 3 2\n-*3\n# \u{1F}\n",
+    ),
+];
+
+#[test]
+fn the_first_fault_of_fonts_and_bitmaps(rt: HostRuntime) {
+    assert_eq!(rt; first_other(rt.alloc(), &IN_PICTURES), None);
+}
+
+/// Faults of call lines.
+const IN_CALLS: [Faulty; 9] = [
+    // The task, and the form of a line.
+    (
+        5,
+        Reason::Call,
+        HEADER,
+        "0 exec\n|17 exec\n|01 exec\n|-1 exec\n|+1 exec\n|1\n|exec\n|1 exec 1\n|1  exec\n\
+        | 1 exec\n|1 exec \n|1 Exec\n|1 scan 0\n|1 jump 2\n1 hide 2\n| \n|01 hide 2\n\
+        |17 hide 2\n|1 tick\n|1 done\n|4294967297 exec\n|65537 exec\n",
+    ),
+    // Lines that belong elsewhere, or nearly begin so.
+    (
+        5,
+        Reason::Call,
+        HEADER,
+        "end\n|desktop 000000\n|mtgui 1\n|buffers 2\n|screen 8 4\n|glyph 65 1\n|.\n|-\n\
+        |fill 0 0 1 1 000000\n|on 1 up 2\n|fonts 0 1\n|Font 0 1\n| font 0 1\n|bitmaps 0 1 1\n\
+        |Class 1 000000\n| class 1 -\n| string 0 a\n|strings 0 a\n|String 0 a\n|1 string 0 a\n\
+        |1 class 1 000000\n",
+    ),
+    (8, Reason::Call, HEADER, "1 exec\n\n# \n1 exec,\n1 hide 2\n"),
+    // A number is out of its range or spelled otherwise, or there is another number of them.
+    (
+        5,
+        Reason::Call,
+        HEADER,
+        "1 create 1 -32769 0 1 1 0\n|1 create 1 32768 0 1 1 0\n|1 create 1 0 -32769 1 1 0\n\
+        |1 create 1 0 32768 1 1 0\n|1 create 1 0 0 65536 1 0\n|1 create 1 0 0 -1 1 0\n\
+        |1 create 1 0 0 1 65536 0\n|1 create 1 0 0 1 -1 0\n|1 create 1 0 0 1 1 256\n\
+        |1 create 1 0 0 1 1 -1\n|1 create 1 -0 0 1 1 0\n|1 create 1 +1 0 1 1 0\n\
+        |1 create 1 00 0 1 1 0\n|1 create 1 0 0 1 1\n|1 create 1 0 0 1 1 0 0\n\
+        |1 create 1 0 0 1 1 0 \n|1 create\n|1 create 01 0 0 1 1 0\n|1 create -1 0 0 1 1 0\n\
+        |1 create 4294967296 0 0 1 1 0\n",
+    ),
+    (
+        5,
+        Reason::Call,
+        HEADER,
+        "1 delete\n|1 delete x\n|1 delete 2 3\n|1 move_to 2 0\n|1 move_to 2 0 32768\n\
+        |1 move_by 2 -32769 0\n|1 resize 2 65536 1\n|1 resize 2 1 -1\n|1 show -1\n|1 hide 02\n\
+        |1 to_top\n|1 to_bottom 4294967296\n|1 set_class 2 256\n|1 set_class 2\n\
+        |1 invalidate\n|1 invalidate_rect 2 0 0 1\n|1 invalidate_rect 2 0 0 1 32768\n\
+        |1 invalidate_area 0 0 1 1 1\n|1 exec1 1\n|1 exec2\n",
+    ),
+    // Not built yet.
+    (
+        5,
+        Reason::Later,
+        HEADER,
+        "class 1 -\n|class x -\n|class 0 - 1\n|display tick\n|display\n|viewer 1 join\n\
+        |viewer 9 x\n|done\n|done 1\n|1 set_trans 2 1\n|16 set_value x\n|1 set_memdev 0\n\
+        |1 send\n|1 select 2\n|1 colour FF0000\n|1 bk_colour -\n|1 text_mode trans\n|1 font 0\n\
+        |1 save\n|1 restore\n|1 fill 0 0 1 1\n|1 frame 0 0 1 1\n|1 line 0 0 1 1\n\
+        |1 bitmap 0 0 0\n|1 text 0 0 0\n|1 dev_create 2 2\n|1 dev_delete 2\n|1 dev_select 2\n\
+        |1 dev_copy 2 0 0\n|1 begin\n|1 end\n",
+    ),
+    (
+        6,
+        Reason::Later,
+        HEADER,
+        "1 exec\nclass 1 -\n|1 exec\nclass 0 -\n|1 exec\n1 text\n|1 exec\ndone\n",
+    ),
+    // Other spellings of those.
+    (
+        5,
+        Reason::Call,
+        HEADER,
+        "0 save\n|17 save\n|01 save\n|save\n|1 Save\n|1 saves\n|1  save\n| 1 save\n|Done\n\
+        |displays tick\n|1 display tick\n|1 viewer 1 join\n| display tick\n",
+    ),
+    // Bytes that no line has.
+    (
+        5,
+        Reason::Ascii,
+        HEADER,
+        "1 hide 2\r\n|1 scan\r\n|1 jump\t\n|1 save\u{1F}\n|17 exec\u{7F}\n|\t\n|done\u{200}\n\
+        |#\u{1F}\nfont 9 9\n",
+    ),
+];
+
+#[test]
+fn the_first_fault_of_calls(rt: HostRuntime) {
+    assert_eq!(rt; first_other(rt.alloc(), &IN_CALLS), None);
+}
