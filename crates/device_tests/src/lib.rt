@@ -1,0 +1,9 @@
+//! Tests of the tasks' contexts and of memory devices, each held against a plain program.
+#![tactic(auto)]
+
+#[cfg(test)]
+mod contexts;
+#[cfg(test)]
+mod devices;
+#[cfg(test)]
+mod numbers;

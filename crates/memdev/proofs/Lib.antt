@@ -1,0 +1,4 @@
+mod FrameLemmas
+mod TableLemmas
+mod SlotLemmas
+pub mod CallerLemmas
