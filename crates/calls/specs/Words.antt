@@ -2,7 +2,7 @@
 use Rattle.std.specs.Prelude.{ℕ, ◌≤◌, List, [], ◌∷◌, length, Option, Some, None, ◌==◌, if◌then◌else◌, find, bytes_eq, codes}
 use Rattle.std.specs.Fmt.{decimal}
 use Rattle.spelling.specs.Words.{◌>>=◌, first_word, natural_at, text_of_words}
-use Rattle.spelling.specs.Fields.{Field, Natural, Number, Makes, Values, taking, texts_of, AreIn, read_fields}
+use Rattle.spelling.specs.Fields.{Field, Natural, Number, Choice, Makes, Values, taking, texts_of, AreIn, read_fields}
 use Rattle.calls.specs.declared.word.Word.{Word}
 use Rattle.calls.specs.declared.word.Word.TheVariants as word
 use Rattle.calls.specs.declared.call.Call.{Call}
@@ -23,6 +23,10 @@ side = Natural 0 65535
 
 abbrev pub byte : Field
 byte = Natural 0 255
+
+-- 0 for no and 1 for yes
+abbrev pub flag : Field
+flag = Choice (codes "0") (codes "1")
 
 -- ---- the table
 
@@ -51,6 +55,9 @@ row_of word.Hide = row (codes "hide") (handle ∷ []) call.Hide
 row_of word.ToTop = row (codes "to_top") (handle ∷ []) call.ToTop
 row_of word.ToBottom = row (codes "to_bottom") (handle ∷ []) call.ToBottom
 row_of word.SetClass = row (codes "set_class") (handle ∷ byte ∷ []) call.SetClass
+row_of word.SetTrans = row (codes "set_trans") (handle ∷ flag ∷ []) call.SetTrans
+row_of word.SetValue = row (codes "set_value") (handle ∷ byte ∷ Number ∷ []) call.SetValue
+row_of word.Send = row (codes "send") (handle ∷ byte ∷ Number ∷ []) call.Send
 row_of word.Invalidate = row (codes "invalidate") (handle ∷ []) call.Invalidate
 row_of word.InvalidateRect =
     row (codes "invalidate_rect") (handle ∷ Number ∷ Number ∷ Number ∷ Number ∷ [])
@@ -68,8 +75,9 @@ name_of_word w = name_of (row_of w)
 abbrev pub all_words : List Word
 all_words =
     word.Create ∷ word.Delete ∷ word.MoveTo ∷ word.MoveBy ∷ word.Resize ∷ word.Show ∷ word.Hide
-    ∷ word.ToTop ∷ word.ToBottom ∷ word.SetClass ∷ word.Invalidate ∷ word.InvalidateRect
-    ∷ word.InvalidateArea ∷ word.Exec ∷ word.Exec1 ∷ word.Scan ∷ []
+    ∷ word.ToTop ∷ word.ToBottom ∷ word.SetClass ∷ word.SetTrans ∷ word.SetValue ∷ word.Send
+    ∷ word.Invalidate ∷ word.InvalidateRect ∷ word.InvalidateArea ∷ word.Exec ∷ word.Exec1
+    ∷ word.Scan ∷ []
 
 -- ---- the text of a call line
 
@@ -92,6 +100,9 @@ said (call.Hide h) = say word.Hide h
 said (call.ToTop h) = say word.ToTop h
 said (call.ToBottom h) = say word.ToBottom h
 said (call.SetClass h class) = say word.SetClass h class
+said (call.SetTrans h trans) = say word.SetTrans h trans
+said (call.SetValue h index value) = say word.SetValue h index value
+said (call.Send h message argument) = say word.Send h message argument
 said (call.Invalidate h) = say word.Invalidate h
 said (call.InvalidateRect h x0 y0 x1 y1) = say word.InvalidateRect h x0 y0 x1 y1
 said (call.InvalidateArea x0 y0 x1 y1) = say word.InvalidateArea x0 y0 x1 y1

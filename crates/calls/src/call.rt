@@ -57,6 +57,23 @@ pub enum Call {
         h: u32,
         class: u8,
     },
+    /// Lets what lies behind a window be seen through it, or no longer.
+    SetTrans {
+        h: u32,
+        trans: bool,
+    },
+    /// Gives one of a window's sixteen values, which are numbered from 0, another number.
+    SetValue {
+        h: u32,
+        index: u8,
+        value: i16,
+    },
+    /// Delivers a message of this number with an argument to a window.
+    Send {
+        h: u32,
+        message: u8,
+        argument: i16,
+    },
     /// Makes all of a window invalid.
     Invalidate {
         h: u32,

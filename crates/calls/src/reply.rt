@@ -13,6 +13,8 @@ pub enum Refusal {
     TooDeep,
     /// There is no class of this number.
     NoClass(u8),
+    /// A window has no value of this number, which is over 15.
+    NoValue(u8),
 }
 
 /// What a call is answered.

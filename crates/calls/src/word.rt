@@ -14,6 +14,9 @@ pub enum Word {
     ToTop,
     ToBottom,
     SetClass,
+    SetTrans,
+    SetValue,
+    Send,
     Invalidate,
     InvalidateRect,
     InvalidateArea,
@@ -23,7 +26,7 @@ pub enum Word {
 }
 
 /// The words that name calls.
-const WORDS: [Word; 16] = [
+const WORDS: [Word; 19] = [
     Word::Create,
     Word::Delete,
     Word::MoveTo,
@@ -34,6 +37,9 @@ const WORDS: [Word; 16] = [
     Word::ToTop,
     Word::ToBottom,
     Word::SetClass,
+    Word::SetTrans,
+    Word::SetValue,
+    Word::Send,
     Word::Invalidate,
     Word::InvalidateRect,
     Word::InvalidateArea,
@@ -59,6 +65,9 @@ impl Word {
             Word::ToTop => b"to_top",
             Word::ToBottom => b"to_bottom",
             Word::SetClass => b"set_class",
+            Word::SetTrans => b"set_trans",
+            Word::SetValue => b"set_value",
+            Word::Send => b"send",
             Word::Invalidate => b"invalidate",
             Word::InvalidateRect => b"invalidate_rect",
             Word::InvalidateArea => b"invalidate_area",

@@ -51,6 +51,13 @@ fn status_of(
     Ok(plain_words(alloc, &owned, &mut store, out))
 }
 
+/// The status of these words on a file with this text, and what is written.
+pub fn written(alloc: Global, words: &str, text: &str) -> Result<(u8, MemSink), Fail> {
+    let mut out = sink_of(alloc, ROOM, &[])?;
+    let status = status_of(alloc, words, store_of(alloc, text, &[])?, &mut out)?;
+    Ok((status, out))
+}
+
 #[test]
 fn scripts_are_played_and_painted(rt: HostRuntime) -> Result<(), Fail> {
     let alloc = rt.alloc();
@@ -151,6 +158,32 @@ fn scripts_are_played_and_painted(rt: HostRuntime) -> Result<(), Fail> {
             000000 FFFFFF 0000FF*3 FFFFFF 000000*2\n000000 FFFFFF*5 000000*2\n\
             done calls 3 refused 0 shown 0 windows 2\n",
         ),
+        // A bitmap, a string and a number of a class, clipped to the window.
+        (
+            "play F",
+            "mtgui 1\nscreen 8 3\nbuffers 1\ndesktop 000000\nfont 0 2\nglyph 49 2\n#.\n##\n\
+            glyph 65 1\n#\n.\nend\nbitmap 0 2 1\nFF0000 -\nend\n# texts\nstring 0 A1\n\
+            class 1 0000FF\nbitmap 0 w-1 0\ntext 0 0 1 00FF00 0\nnumber 0 4 1 FFFFFF v0+11\n\
+            end\n1 create 1 0 0 6 3 1\n1 exec\n1 scan\n",
+            0,
+            "ok 2\nok 2\nframe 8 3\n0000FF*5 FF0000 000000*2\n\
+            00FF00*2 0000FF*2 FFFFFF 0000FF 000000*2\n\
+            0000FF 00FF00*2 0000FF FFFFFF*2 000000*2\n\
+            done calls 3 refused 0 shown 0 windows 2\n",
+        ),
+        (
+            "play F",
+            "mtgui 1\nscreen 3 1\nbuffers 1\ndesktop 000000\nclass 1 000000\n\
+            blend 255 hline 0 1 0 FFFFFF\nend\n",
+            3,
+            "fault 6 block\n",
+        ),
+        (
+            "paint F",
+            "mtgui 1\nscreen 3 1\nbuffers 1\ndesktop 000000\nfont 0 1\nglyph 65 2\n#\nend\n",
+            3,
+            "fault 7 block\n",
+        ),
         (
             "paint F",
             FIRST,
@@ -179,8 +212,7 @@ fn scripts_are_played_and_painted(rt: HostRuntime) -> Result<(), Fail> {
         ("paint G", FIRST, 4, ""),
     ];
     for (words, text, status, bytes) in rows {
-        let mut out = sink_of(alloc, ROOM, &[])?;
-        let answered = status_of(alloc, words, store_of(alloc, text, &[])?, &mut out)?;
+        let (answered, out) = written(alloc, words, text)?;
         assert_eq!(rt; answered, status, "{words}: {text}");
         assert_eq!(rt; str::from_utf8(out.bytes())?, bytes, "{words}: {text}");
     }

@@ -7,4 +7,6 @@ mod commands;
 #[cfg(test)]
 mod session;
 #[cfg(test)]
+mod values;
+#[cfg(test)]
 mod windows;

@@ -16,10 +16,10 @@ use Rattle.calls.specs.declared.call.Call.TheVariants as call
 use Rattle.calls.specs.declared.reply.Refusal.TheVariants.{NoWindow, Desktop, TooManyWindows, TooDeep}
 use Rattle.invalidate.specs.Invalidation.{on_screen}
 use Rattle.gui_core.specs.declared.change.Change.{Change}
-use Rattle.gui_core.specs.declared.change.Change.TheVariants.{Delete, MoveTo, MoveBy, Resize, Show, Hide, ToTop, ToBottom, SetClass}
-use Rattle.gui_core.specs.Windows.{moved_by, with_class, are_as_they_were, clip_at, listed, after_change, with_invalid_window, with_invalid_rect}
+use Rattle.gui_core.specs.declared.change.Change.TheVariants.{Delete, MoveTo, MoveBy, Resize, Show, Hide, ToTop, ToBottom, SetClass, SetTrans}
+use Rattle.gui_core.specs.Windows.{moved_by, with_class, are_as_they_were, clip_at, listed, after_change, with_invalid_window, with_invalid_rect, with_trans}
 use Rattle.gui_core.specs.Changes.{list_after}
-use Rattle.gui_core.specs.States.{Objection, no_window, too_deep, bad_size, no_class, unchangeable, objections}
+use Rattle.gui_core.specs.States.{Objection, no_window, too_deep, bad_size, no_class, unchangeable, objections, no_value}
 use Rattle.gui_core.proofs.IgnoreLemmas.{bare_invalidated}
 use Rattle.gui_core.proofs.FollowLemmas.{areas_bare}
 use Rattle.gui_core.proofs.ShapeLemmas.{Keeps, window_of-map, has_ancestors-map, without_family-map, raised-map, lowered-map, changed-map, window_changed-map}
@@ -54,6 +54,7 @@ listed_bare h Hide ws = window_changed-map bare (with_shown false) keeps_bare h 
 listed_bare h ToTop ws = raised-map bare keeps_bare h ws
 listed_bare h ToBottom ws = lowered-map bare keeps_bare h ws
 listed_bare h (SetClass class) ws = window_changed-map bare (with_class class) keeps_bare h ws (λ w. refl)
+listed_bare h (SetTrans trans) ws = window_changed-map bare (with_trans trans) keeps_bare h ws (λ w. refl)
 
 -- ---- what is held against calls
 
@@ -90,6 +91,9 @@ objections-bare classes ws (call.Hide h) = unchangeable-bare ws h
 objections-bare classes ws (call.ToTop h) = unchangeable-bare ws h
 objections-bare classes ws (call.ToBottom h) = unchangeable-bare ws h
 objections-bare classes ws (call.SetClass h class) = ap (λ (os : List Objection). os ++ no_class classes class ∷ []) (unchangeable-bare ws h)
+objections-bare classes ws (call.SetTrans h trans) = unchangeable-bare ws h
+objections-bare classes ws (call.SetValue h index value) = ap (λ (o : Objection). o ∷ no_value index ∷ []) (no_window-bare ws h)
+objections-bare classes ws (call.Send h message argument) = ap (λ (o : Objection). o ∷ []) (no_window-bare ws h)
 objections-bare classes ws (call.Invalidate h) = ap (λ (o : Objection). o ∷ []) (no_window-bare ws h)
 objections-bare classes ws (call.InvalidateRect h x0 y0 x1 y1) = ap (λ (o : Objection). o ∷ []) (no_window-bare ws h)
 objections-bare classes ws (call.InvalidateArea x0 y0 x1 y1) = refl

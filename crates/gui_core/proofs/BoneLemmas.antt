@@ -10,6 +10,7 @@ use Rattle.scene.specs.Changes.{lies_below, is_below, LiesBelow, Fails, Adds, Ta
 use Rattle.scene.specs.Families.{new_window, without_family, on_top_of}
 use Rattle.scene.specs.Stacks.{IsStack, IsWindow, IsDesktop, has_ancestors}
 use Rattle.scene.proofs.CallerLemmas.{bare, AreFound, all_found}
+use Rattle.messages.specs.Delivery.{rest_of}
 use Rattle.win_tree.proofs.CallerLemmas.{none_given, IsNew, created_adds, without_takes}
 use Rattle.gui_core.proofs.ShapeLemmas.{Keeps, window_of-map, number_of-map, filter-map, without_family-map, on_top_of-map}
 
@@ -50,6 +51,20 @@ bones-bare (w ∷ ws) = ap (λ (vs : List Win). bones w ∷ vs) (bones-bare ws)
 
 pub bones-same : (ws vs : List Win) → map bare vs ≡ map bare ws → map bones vs ≡ map bones ws
 bones-same ws vs e = sym (bones-bare vs) ∙ ap (map bones) e ∙ bones-bare ws
+
+bones-rest : (ws : List Win) → map bones (map rest_of ws) ≡ map bones ws
+bones-rest [] = refl
+bones-rest (w ∷ ws) = ap (λ (vs : List Win). bones w ∷ vs) (bones-rest ws)
+
+pub bones_rest : (ws vs : List Win) → map rest_of vs ≡ map rest_of ws → map bones vs ≡ map bones ws
+bones_rest ws vs e = sym (bones-rest vs) ∙ ap (map bones) e ∙ bones-rest ws
+
+places-rest : (ws : List Win) → map place_of (map rest_of ws) ≡ map place_of ws
+places-rest [] = refl
+places-rest (w ∷ ws) = ap (λ (ps : List Place). place_of w ∷ ps) (places-rest ws)
+
+pub places_rest : (ws vs : List Win) → map rest_of vs ≡ map rest_of ws → map place_of vs ≡ map place_of ws
+places_rest ws vs e = sym (places-rest vs) ∙ ap (map place_of) e ∙ places-rest ws
 
 pub live_bones : (ws : List Win) (h : ℕ) (w : Win) → window_of ws h ≡ Some w → window_of (map bones ws) h ≡ Some (bones w)
 live_bones ws h w live = window_of-map bones keeps_bones ws h ∙ ap (option_map bones) live

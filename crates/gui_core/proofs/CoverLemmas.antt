@@ -21,7 +21,8 @@ use Rattle.gui_core.specs.Setups.{Setup, screen_of, looks_of}
 use Rattle.gui_core.specs.Windows.{is_as_it_was, are_as_they_were, clip_at, listed, after_change}
 use Rattle.gui_core.proofs.SceneLemmas.{other_found}
 use Rattle.gui_core.proofs.ShapeLemmas.{without_family-map, on_top_of-map, raised-map, lowered-map, changed-map}
-use Rattle.gui_core.proofs.BoneLemmas.{bones, keeps_bones, bones-same, live_bones, all_live, Commutes, reorders, reorders_found, takes, adds}
+use Rattle.messages.specs.Delivery.{rest_of}
+use Rattle.gui_core.proofs.BoneLemmas.{bones_rest, places_rest, bones, keeps_bones, bones-same, live_bones, all_live, Commutes, reorders, reorders_found, takes, adds}
 
 -- ---- the shape of the tree
 
@@ -43,6 +44,16 @@ shaped_same setup ws vs handles e s =
       stack = subst IsStack (sym same) s.stack;
       given = subst (AreGiven handles) (sym same) s.given;
       desktop = ap (λ (found : ℕ → Option Place). found 1) (place_at-same vs ws (places-same ws vs e)) ∙ s.desktop;
+    }
+
+-- the same where windows differ in their values too
+pub shaped_rest : (setup : Setup) (ws vs : List Win) (handles : ℕ) → map rest_of vs ≡ map rest_of ws → IsShaped setup ws handles → IsShaped setup vs handles
+shaped_rest setup ws vs handles e s =
+    let same = bones_rest ws vs e in
+    record {
+      stack = subst IsStack (sym same) s.stack;
+      given = subst (AreGiven handles) (sym same) s.given;
+      desktop = ap (λ (found : ℕ → Option Place). found 1) (place_at-same vs ws (places_rest ws vs e)) ∙ s.desktop;
     }
 
 -- What a call on the window that has the handle leads to: windows of a tree, and where they aren't as they were, both clips of the window cover the change.
@@ -199,28 +210,30 @@ leads_created setup ws handles w over' s new next =
 
 -- ---- a window changed in its place
 
--- the window in another place of its parent, with other sides, of another class, shown or hidden
-abbrev otherwise : Win → ℕ → ℤ → ℤ → ℕ → ℕ → Bool → Win
-otherwise w class x y width height shown = record w { class = class; x = x; y = y; w = width; h = height; shown = shown }
+-- the window in another place of its parent, with other sides, of another class, shown or hidden, and seen through or not
+abbrev otherwise : Win → ℕ → ℤ → ℤ → ℕ → ℕ → Bool → Bool → Win
+otherwise w class x y width height shown trans = record w { class = class; x = x; y = y; w = width; h = height; shown = shown; trans = trans }
 
 -- nothing else of a window changes
 pub record IsInPlace (f : Win → Win) : Type 0 where
-  pub keeps : (w : Win) → f w ≡ otherwise w (f w).class (f w).x (f w).y (f w).w (f w).h (f w).shown
+  pub keeps : (w : Win) → f w ≡ otherwise w (f w).class (f w).x (f w).y (f w).w (f w).h (f w).shown (f w).trans
 
-in_place : (w : Win) (class : ℕ) (x y : ℤ) (width height : ℕ) (shown : Bool) → is_as_it_was w (otherwise w class x y width height shown) ≡ true → otherwise w class x y width height shown ≡ w
-in_place w class x y width height shown e =
+in_place : (w : Win) (class : ℕ) (x y : ℤ) (width height : ℕ) (shown trans : Bool) → is_as_it_was w (otherwise w class x y width height shown trans) ≡ true → otherwise w class x y width height shown trans ≡ w
+in_place w class x y width height shown trans e =
     let parts = and_parts _ _ e in
     let first = and_parts _ _ parts.0 in
     let kind = and_parts _ _ first.0 in
     let place = and_parts _ _ first.1 in
     let last = and_parts _ _ parts.1 in
-    let sides = and_parts _ _ last.0 in
-    ap (λ (v : ℕ). otherwise w v x y width height shown) (sym (eqb-true w.class class kind.1))
-    ∙ ap (λ (v : ℤ). otherwise w w.class v y width height shown) (sym ((Decides-int_eq w.x x).0 place.0))
-    ∙ ap (λ (v : ℤ). otherwise w w.class w.x v width height shown) (sym ((Decides-int_eq w.y y).0 place.1))
-    ∙ ap (λ (v : ℕ). otherwise w w.class w.x w.y v height shown) (sym (eqb-true w.w width sides.0))
-    ∙ ap (λ (v : ℕ). otherwise w w.class w.x w.y w.w v shown) (sym (eqb-true w.h height sides.1))
-    ∙ ap (λ (v : Bool). otherwise w w.class w.x w.y w.w w.h v) (sym ((booleans_Decides w.shown shown).0 last.1))
+    let rest = and_parts _ _ last.0 in
+    let sides = and_parts _ _ rest.0 in
+    ap (λ (v : ℕ). otherwise w v x y width height shown trans) (sym (eqb-true w.class class kind.1))
+    ∙ ap (λ (v : ℤ). otherwise w w.class v y width height shown trans) (sym ((Decides-int_eq w.x x).0 place.0))
+    ∙ ap (λ (v : ℤ). otherwise w w.class w.x v width height shown trans) (sym ((Decides-int_eq w.y y).0 place.1))
+    ∙ ap (λ (v : ℕ). otherwise w w.class w.x w.y v height shown trans) (sym (eqb-true w.w width sides.0))
+    ∙ ap (λ (v : ℕ). otherwise w w.class w.x w.y w.w v shown trans) (sym (eqb-true w.h height sides.1))
+    ∙ ap (λ (v : Bool). otherwise w w.class w.x w.y w.w w.h v trans) (sym ((booleans_Decides w.shown shown).0 rest.1))
+    ∙ ap (λ (v : Bool). otherwise w w.class w.x w.y w.w w.h w.shown v) (sym ((booleans_Decides w.trans trans).0 last.1))
 
 changed_stays : (f : Win → Win) (h : ℕ) (ws : List Win) → IsInPlace f → are_as_they_were ws (window_changed h f ws) ≡ true → window_changed h f ws ≡ ws
 unfolding window_changed
@@ -230,7 +243,7 @@ changed_stays f h (w ∷ ws) is e =
     ap (λ (v : Win). v ∷ window_changed h f ws) (one_stays (eqb w.handle h) both.0) ∙ ap (λ (vs : List Win). w ∷ vs) (changed_stays f h ws is both.1)
   where
     one_stays : (b : Bool) → is_as_it_was w (cond b (f w) w) ≡ true → cond b (f w) w ≡ w
-    one_stays true same = is.keeps w ∙ in_place w (f w).class (f w).x (f w).y (f w).w (f w).h (f w).shown (ap (is_as_it_was w) (sym (is.keeps w)) ∙ same)
+    one_stays true same = is.keeps w ∙ in_place w (f w).class (f w).x (f w).y (f w).w (f w).h (f w).shown (f w).trans (ap (is_as_it_was w) (sym (is.keeps w)) ∙ same)
     one_stays false same = refl
 
 found_changed : (h : ℕ) (f : Win → Win) (w : Win) (us : List Win) → ((v : Win) → (f v).handle ≡ v.handle) → window_of us h ≡ Some w → window_of (window_changed h f us) h ≡ Some (f w)

@@ -20,7 +20,7 @@ use Rattle.scene.specs.Families.{new_window, desktop_with, on_top_of, moved_to, 
 use Rattle.scene.proofs.CallerLemmas.{bare, bare-area, AreasCover-areas, DamageCovers-alone, clips_have-found}
 use Rattle.win_tree.proofs.CallerLemmas.{IsNew}
 use Rattle.calls.specs.declared.call.Call.{Call}
-use Rattle.calls.specs.declared.call.Call.TheVariants.{Create, Delete, MoveTo, MoveBy, Resize, Show, Hide, ToTop, ToBottom, SetClass, Invalidate, InvalidateRect, InvalidateArea, Exec, Exec1, Scan}
+use Rattle.calls.specs.declared.call.Call.TheVariants.{Create, Delete, MoveTo, MoveBy, Resize, Show, Hide, ToTop, ToBottom, SetClass, Invalidate, InvalidateRect, InvalidateArea, Exec, Exec1, Scan, SetTrans, SetValue, Send}
 use Rattle.calls.specs.declared.entry.Entry.{Entry}
 use Rattle.calls.specs.declared.entry.Entry.TheVariants as entry
 use Rattle.calls.specs.declared.reply.Refusal.{Refusal}
@@ -29,7 +29,7 @@ use Rattle.frame.proofs.CallerLemmas.{colour_at-picture_of}
 use Rattle.gui_core.specs.declared.change.Change.{Change}
 use Rattle.gui_core.specs.declared.change.Change.TheVariants as change
 use Rattle.gui_core.specs.Setups.{Setup, screen_of, looks_of, painter}
-use Rattle.gui_core.specs.Windows.{moved_by, with_class, after_change, with_invalid_window, with_invalid_rect, with_invalid_area}
+use Rattle.gui_core.specs.Windows.{moved_by, with_class, after_change, with_invalid_window, with_invalid_rect, with_invalid_area, with_trans, with_value, with_message}
 use Rattle.gui_core.specs.Changes.{list_after}
 use Rattle.invalidate.specs.Invalidation.{is_invalid, on_screen}
 use Rattle.gui_core.specs.Jobs.{jobs_of}
@@ -41,9 +41,11 @@ use Rattle.gui_core.proofs.KeptLemmas.{jobs-step}
 use Rattle.gui_core.proofs.SceneLemmas.{found_handle}
 use Rattle.gui_core.proofs.EffectLemmas.{MayChange, may_change, MayBeMade, may_be_made, few_windows}
 use Rattle.gui_core.proofs.ShapeLemmas.{has_ancestors-map}
+use Rattle.messages.specs.Delivery.{rest_of}
+use Rattle.gui_core.proofs.MessageLemmas.{rest_value, rest_message, value_covers, message_covers}
 use Rattle.gui_core.proofs.BareLemmas.{bare_after_change, bare_window, bare_rect}
 use Rattle.gui_core.proofs.BoneLemmas.{stack_alone, bones, keeps_bones, bones_window, live_bones}
-use Rattle.gui_core.proofs.CoverLemmas.{desk, IsShaped, shaped_same, Leads, change_covers, leads_raised, leads_lowered, leads_without, leads_created, leads_changed}
+use Rattle.gui_core.proofs.CoverLemmas.{desk, IsShaped, shaped_same, shaped_rest, Leads, change_covers, leads_raised, leads_lowered, leads_without, leads_created, leads_changed}
 use Rattle.gui_core.proofs.PictureLemmas.{picture_of-same, IsPictured, pictured_some, job_covers}
 
 -- ---- the desktop
@@ -141,6 +143,7 @@ own_leads setup ws handles w change.Hide s live other = leads_changed setup ws h
 own_leads setup ws handles w change.ToTop s live other = leads_raised setup ws handles w s live other
 own_leads setup ws handles w change.ToBottom s live other = leads_lowered setup ws handles w s live other
 own_leads setup ws handles w (change.SetClass class) s live other = leads_changed setup ws handles w (with_class class) (record { keeps = λ v. refl }) s live other
+own_leads setup ws handles w (change.SetTrans trans) s live other = leads_changed setup ws handles w (with_trans trans) (record { keeps = λ v. refl }) s live other
 
 leads_listed : (setup : Setup) (ws : List Win) (handles h : ℕ) (c : Change) → IsShaped setup ws handles → MayChange ws h → Leads setup ws (list_after h c ws) handles h
 leads_listed setup ws handles h c s m =
@@ -174,6 +177,14 @@ jobs_hold setup (suc n) s h = jobs_hold setup n (after_job setup s) (job_holds s
 marked_holds : (setup : Setup) (s : State) (vs : List Win) → map bare vs ≡ map bare s.windows → Covers setup s.windows vs → Holds setup s → Holds setup (record s { windows = vs })
 marked_holds setup s vs same covers is = record {
   shaped = shaped_same setup s.windows vs s.handles same is.shaped;
+  covers = right_after setup s vs s.handles is.covers covers;
+  shown = is.shown;
+}
+
+-- a change of values and of what is invalid alone
+valued_holds : (setup : Setup) (s : State) (vs : List Win) → map rest_of vs ≡ map rest_of s.windows → Covers setup s.windows vs → Holds setup s → Holds setup (record s { windows = vs })
+valued_holds setup s vs same covers is = record {
+  shaped = shaped_rest setup s.windows vs s.handles same is.shaped;
   covers = right_after setup s vs s.handles is.covers covers;
   shown = is.shown;
 }
@@ -215,6 +226,11 @@ effect_holds setup s (Hide h) e is = changed_holds setup s h change.Hide (may_ch
 effect_holds setup s (ToTop h) e is = changed_holds setup s h change.ToTop (may_change s.windows h [] e).0 is
 effect_holds setup s (ToBottom h) e is = changed_holds setup s h change.ToBottom (may_change s.windows h [] e).0 is
 effect_holds setup s (SetClass h class) e is = changed_holds setup s h (change.SetClass class) (may_change s.windows h (no_class (length setup.assets.classes) class ∷ []) e).0 is
+effect_holds setup s (SetTrans h trans) e is = changed_holds setup s h (change.SetTrans trans) (may_change s.windows h [] e).0 is
+effect_holds setup s (SetValue h index value) e is =
+    valued_holds setup s (with_value (screen_of setup) h index value s.windows) (rest_value (screen_of setup) h index value s.windows) (λ x y x_in y_in. value_covers setup.assets (screen_of setup) h index value s.windows (point_at (pos x) (pos y))) is
+effect_holds setup s (Send h message argument) e is =
+    valued_holds setup s (with_message setup.assets (screen_of setup) h message argument s.windows) (rest_message setup.assets (screen_of setup) h message argument s.windows) (λ x y x_in y_in. message_covers setup.assets (screen_of setup) h message argument s.windows (point_at (pos x) (pos y))) is
 effect_holds setup s (Invalidate h) e is =
     let clip : Win → Rect = clip_in (screen_of setup) s.windows in
     marked_holds setup s (with_invalid_window (screen_of setup) h s.windows) (bare_window (screen_of setup) h s.windows) (invalid_covers setup s.windows h clip clip) is

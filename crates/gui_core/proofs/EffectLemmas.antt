@@ -20,9 +20,9 @@ use Rattle.calls.specs.declared.call.Call.TheVariants.{Create}
 use Rattle.calls.specs.declared.reply.Refusal.{Refusal}
 use Rattle.calls.specs.declared.reply.Refusal.TheVariants.{Desktop, BadSize, TooManyWindows, TooDeep, NoClass}
 use Rattle.gui_core.specs.declared.change.Change.{Change}
-use Rattle.gui_core.specs.declared.change.Change.TheVariants.{Delete, MoveTo, MoveBy, Resize, Show, Hide, ToTop, ToBottom, SetClass}
+use Rattle.gui_core.specs.declared.change.Change.TheVariants.{Delete, MoveTo, MoveBy, Resize, Show, Hide, ToTop, ToBottom, SetClass, SetTrans}
 use Rattle.gui_core.specs.Setups.{Setup, screen_of}
-use Rattle.gui_core.specs.Windows.{after_change, with_class, with_invalid_window, with_invalid_rect}
+use Rattle.gui_core.specs.Windows.{after_change, with_class, with_invalid_window, with_invalid_rect, with_trans}
 use Rattle.gui_core.specs.Scenes.{HasClass, IsScene}
 use Rattle.gui_core.specs.Changes.{call_for, list_after}
 use Rattle.gui_core.specs.States.{State, Step, with_windows, effect, Objection, objections, no_window, too_deep, bad_size, no_class, refusal_of}
@@ -93,6 +93,17 @@ stands_otherwise setup w x y shown class is other known = record {
   class = known;
 }
 
+stands_trans : (setup : Setup) (w : Win) (trans : Bool) → IsWindow w → w.handle ≢ 1 → HasClass setup w → MayStand setup w (with_trans trans w)
+stands_trans setup w trans is other known = record {
+  becomes = record {
+    handle = refl;
+    parent = refl;
+    window = record { handle = is.handle; some_width = is.some_width; width = is.width; some_height = is.some_height; height = is.height; invalid = is.invalid };
+    desktop = λ one. absurd (other one);
+  };
+  class = known;
+}
+
 stands_resized : (setup : Setup) (w : Win) (width height : ℕ) → IsWindow w → w.handle ≢ 1 → HasClass setup w → AreSides width height → MayStand setup w (resized_to width height w)
 stands_resized setup w width height is other known sides = record {
   becomes = record {
@@ -143,6 +154,9 @@ scene_listed setup ws handles h (SetClass class) s e =
     let m = may_change ws h ((nat_le (length setup.assets.classes) class, _) ∷ []) e in
     let known = known_class (length setup.assets.classes) class (not_refused (nat_le (length setup.assets.classes) class) _ None m.1).0 in
     scene_changed setup ws handles h (with_class class) s m.0.other (λ w. refl) (λ w live. let f = is_found setup ws handles h w s m.0.other live in stands_otherwise setup w w.x w.y w.shown class f.window f.other known)
+scene_listed setup ws handles h (SetTrans trans) s e =
+    let m = (may_change ws h [] e).0 in
+    scene_changed setup ws handles h (with_trans trans) s m.other (λ w. refl) (λ w live. let f = is_found setup ws handles h w s m.other live in stands_trans setup w trans f.window f.other f.class)
 
 -- ---- a new window
 
@@ -217,3 +231,4 @@ does setup s h Hide = refl
 does setup s h ToTop = refl
 does setup s h ToBottom = refl
 does setup s h (SetClass class) = refl
+does setup s h (SetTrans trans) = refl

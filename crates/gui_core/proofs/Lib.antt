@@ -10,6 +10,7 @@ mod PlaceLemmas
 mod KeptLemmas
 mod ShapeLemmas
 mod BareLemmas
+mod MessageLemmas
 mod BoneLemmas
 mod CoverLemmas
 mod PictureLemmas

@@ -11,7 +11,7 @@ use Rattle.scene.specs.Clips.{clip_in}
 use Rattle.scene.specs.Families.{new_window, on_top_of}
 use Rattle.scene.proofs.CallerLemmas.{bare, bare-area, painted-same}
 use Rattle.calls.specs.declared.call.Call.{Call}
-use Rattle.calls.specs.declared.call.Call.TheVariants.{Create, Delete, MoveTo, MoveBy, Resize, Show, Hide, ToTop, ToBottom, SetClass, Invalidate, InvalidateRect, InvalidateArea, Exec, Exec1, Scan}
+use Rattle.calls.specs.declared.call.Call.TheVariants.{Create, Delete, MoveTo, MoveBy, Resize, Show, Hide, ToTop, ToBottom, SetClass, Invalidate, InvalidateRect, InvalidateArea, Exec, Exec1, Scan, SetTrans, SetValue, Send}
 use Rattle.calls.specs.declared.entry.Entry.{Entry}
 use Rattle.calls.specs.declared.entry.Entry.TheVariants as entry
 use Rattle.calls.specs.declared.reply.Reply.TheVariants.{Refused}
@@ -26,6 +26,7 @@ use Rattle.gui_core.specs.States.{State, Step, Objection, opening, objections, r
 use Rattle.gui_core.specs.Promises.{changes_windows, window_calls}
 use Rattle.gui_core.proofs.IgnoreLemmas.{bare-job}
 use Rattle.gui_core.proofs.ShapeLemmas.{on_top_of-map}
+use Rattle.gui_core.proofs.MessageLemmas.{revalued_at, bare_value, plainly_sent, bare_message}
 use Rattle.gui_core.proofs.BareLemmas.{keeps_bare, bare_after_change, bare_window, bare_rect, listed_bare, objections-bare}
 
 -- ---- a refused call
@@ -45,6 +46,9 @@ effect_is_no_refusal setup s (Hide h) r e = absurd cc
 effect_is_no_refusal setup s (ToTop h) r e = absurd cc
 effect_is_no_refusal setup s (ToBottom h) r e = absurd cc
 effect_is_no_refusal setup s (SetClass h class) r e = absurd cc
+effect_is_no_refusal setup s (SetTrans h trans) r e = absurd cc
+effect_is_no_refusal setup s (SetValue h index value) r e = absurd cc
+effect_is_no_refusal setup s (Send h message argument) r e = absurd cc
 effect_is_no_refusal setup s (Invalidate h) r e = absurd cc
 effect_is_no_refusal setup s (InvalidateRect h x0 y0 x1 y1) r e = absurd cc
 effect_is_no_refusal setup s (InvalidateArea x0 y0 x1 y1) r e = absurd cc
@@ -127,6 +131,15 @@ effect_alike setup s t (Hide h) e = changed_alike setup s t h change.Hide e
 effect_alike setup s t (ToTop h) e = changed_alike setup s t h change.ToTop e
 effect_alike setup s t (ToBottom h) e = changed_alike setup s t h change.ToBottom e
 effect_alike setup s t (SetClass h class) e = changed_alike setup s t h (change.SetClass class) e
+effect_alike setup s t (SetTrans h trans) e = changed_alike setup s t h (change.SetTrans trans) e
+effect_alike setup s t (SetValue h index value) e = record {
+  windows = bare_value (screen_of setup) h index value s.windows ∙ ap (revalued_at h index value) e.windows ∙ sym (bare_value (screen_of setup) h index value t.windows);
+  handles = e.handles;
+}
+effect_alike setup s t (Send h message argument) e = record {
+  windows = bare_message setup.assets (screen_of setup) h message argument s.windows ∙ ap (plainly_sent setup.assets h message argument) e.windows ∙ sym (bare_message setup.assets (screen_of setup) h message argument t.windows);
+  handles = e.handles;
+}
 effect_alike setup s t (Invalidate h) e = record {
   windows = bare_window (screen_of setup) h s.windows ∙ e.windows ∙ sym (bare_window (screen_of setup) h t.windows);
   handles = e.handles;
@@ -173,6 +186,9 @@ other_alike setup s (entry.Call actor (Hide h)) window = absurd cc
 other_alike setup s (entry.Call actor (ToTop h)) window = absurd cc
 other_alike setup s (entry.Call actor (ToBottom h)) window = absurd cc
 other_alike setup s (entry.Call actor (SetClass h class)) window = absurd cc
+other_alike setup s (entry.Call actor (SetTrans h trans)) window = absurd cc
+other_alike setup s (entry.Call actor (SetValue h index value)) window = absurd cc
+other_alike setup s (entry.Call actor (Send h message argument)) window = absurd cc
 other_alike setup s (entry.Call actor (Invalidate h)) window = absurd cc
 other_alike setup s (entry.Call actor (InvalidateRect h x0 y0 x1 y1)) window = absurd cc
 other_alike setup s (entry.Call actor (InvalidateArea x0 y0 x1 y1)) window = absurd cc

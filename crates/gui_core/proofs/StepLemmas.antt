@@ -6,15 +6,15 @@ use Rattle.std.specs.Ordering.{int_eq}
 use Rattle.std.proofs.Math.Seq.{take-suc}
 use Rattle.std.proofs.lemmas.Bool.{and_parts}
 use Rattle.std.proofs.lemmas.Bool.Decides.{Decides-int_eq}
-use Rattle.std.proofs.lemmas.List.{drop_more, map-append, take-map, drop-map, take-append-drop, length-take-le, set_at, get_or-map}
+use Rattle.std.proofs.lemmas.List.{length-map, drop_more, map-append, take-map, drop-map, take-append-drop, length-take-le, set_at, get_or-map}
 use Rattle.std.proofs.lemmas.Option.{slice_get-get_or}
 use Rattle.gfx_base.specs.declared.rect.Rect.{Rect}
 use Rattle.scene.specs.declared.win.Win.{Win}
 use Rattle.scene.specs.Places.{window_of, no_window, number_of, AreSingle}
-use Rattle.scene.specs.Damage.{with_invalid}
 use Rattle.scene.specs.Families.{window_changed}
 use Rattle.scene.specs.Stacks.{IsStack, IsWindow}
-use Rattle.scene.proofs.CallerLemmas.{bare, length-same, set_is_changed, window_of-single}
+use Rattle.scene.proofs.CallerLemmas.{bare, set_is_changed, window_of-single}
+use Rattle.messages.specs.Delivery.{rest_of}
 use Rattle.win_tree.specs.Trees.{MayReplace, IsReplacement}
 use Rattle.gui_core.specs.Windows.{is_as_it_was, are_as_they_were}
 use Rattle.gui_core.proofs.SceneLemmas.{found_has}
@@ -49,37 +49,48 @@ rect_same r s e =
 
 -- ---- windows that are put back, one after the other
 
-number_of-bare : (h : ℕ) (ws : List Win) → number_of h (map bare ws) ≡ number_of h ws
-number_of-bare h [] = refl
-number_of-bare h (w ∷ ws) = ap (λ (n : ℕ). cond (eqb w.handle h) 1 0 + n) (number_of-bare h ws)
+number_of-rest : (h : ℕ) (ws : List Win) → number_of h (map rest_of ws) ≡ number_of h ws
+number_of-rest h [] = refl
+number_of-rest h (w ∷ ws) = ap (λ (n : ℕ). cond (eqb w.handle h) 1 0 + n) (number_of-rest h ws)
 
-single_bare : (ws vs : List Win) → map bare vs ≡ map bare ws → AreSingle ws → AreSingle vs
-single_bare ws vs e single h = subst (λ (n : ℕ). n ≤ 1) (sym (sym (number_of-bare h vs) ∙ ap (number_of h) e ∙ number_of-bare h ws)) (single h)
+single_rest : (ws vs : List Win) → map rest_of vs ≡ map rest_of ws → AreSingle ws → AreSingle vs
+single_rest ws vs e single h = subst (λ (n : ℕ). n ≤ 1) (sym (sym (number_of-rest h vs) ∙ ap (number_of h) e ∙ number_of-rest h ws)) (single h)
+
+rest-bare : (ws : List Win) → map rest_of (map bare ws) ≡ map rest_of ws
+rest-bare [] = refl
+rest-bare (w ∷ ws) = ap (λ (vs : List Win). rest_of w ∷ vs) (rest-bare ws)
+
+-- windows that differ in what is invalid alone
+pub rest_same : (ws vs : List Win) → map bare vs ≡ map bare ws → map rest_of vs ≡ map rest_of ws
+rest_same ws vs e = sym (rest-bare vs) ∙ ap (map rest_of) e ∙ rest-bare ws
+
+pub length_same : (ws vs : List Win) → map rest_of vs ≡ map rest_of ws → length vs ≡ length ws
+length_same ws vs e = sym (length-map vs rest_of) ∙ ap length e ∙ length-map ws rest_of
 
 -- the first windows of one list, and the later ones of another
 abbrev pub mixed : ℕ → List Win → List Win → List Win
 mixed i new old = take i new ++ drop i old
 
--- two lists of windows that differ in what is invalid alone, at a place in both
+-- two lists of windows that differ in their values and in what is invalid alone, at a place in both
 pub record AreAt (new old : List Win) (i : ℕ) : Type 0 where
   pub stack : IsStack new
-  pub rest : map bare new ≡ map bare old
+  pub rest : map rest_of new ≡ map rest_of old
   pub there : i < length new
 
 -- the place in the other list
 old_there : (new old : List Win) (i : ℕ) → AreAt new old i → i < length old
-old_there new old i a = let same = length-same old new a.rest in let there = a.there in omega arith
+old_there new old i a = let same = length_same old new a.rest in let there = a.there in omega arith
 
-bare_at : (new old : List Win) (i : ℕ) → AreAt new old i → bare (get_or new i no_window) ≡ bare (get_or old i no_window)
-bare_at new old i a =
-    sym (get_or-map bare new i no_window (bare no_window) a.there) ∙ ap (λ (us : List Win). get_or us i (bare no_window)) a.rest ∙ get_or-map bare old i no_window (bare no_window) (old_there new old i a)
+rest_at : (new old : List Win) (i : ℕ) → AreAt new old i → rest_of (get_or new i no_window) ≡ rest_of (get_or old i no_window)
+rest_at new old i a =
+    sym (get_or-map rest_of new i no_window (rest_of no_window) a.there) ∙ ap (λ (us : List Win). get_or us i (rest_of no_window)) a.rest ∙ get_or-map rest_of old i no_window (rest_of no_window) (old_there new old i a)
 
-mixed_bare : (new old : List Win) (i : ℕ) → map bare new ≡ map bare old → map bare (mixed i new old) ≡ map bare new
-mixed_bare new old i e =
-    map-append bare (take i new) (drop i old)
-    ∙ ap (λ (us : List Win). us ++ map bare (drop i old)) (sym (take-map bare i new))
-    ∙ ap (λ (us : List Win). take i (map bare new) ++ us) (sym (drop-map bare i old) ∙ ap (drop i) (sym e))
-    ∙ take-append-drop i (map bare new)
+mixed_rest : (new old : List Win) (i : ℕ) → map rest_of new ≡ map rest_of old → map rest_of (mixed i new old) ≡ map rest_of new
+mixed_rest new old i e =
+    map-append rest_of (take i new) (drop i old)
+    ∙ ap (λ (us : List Win). us ++ map rest_of (drop i old)) (sym (take-map rest_of i new))
+    ∙ ap (λ (us : List Win). take i (map rest_of new) ++ us) (sym (drop-map rest_of i old) ∙ ap (drop i) (sym e))
+    ∙ take-append-drop i (map rest_of new)
 
 before_step : (new old : List Win) (i : ℕ) → AreAt new old i → mixed i new old ≡ take i new ++ (get_or old i no_window ∷ drop (i + 1) old)
 before_step new old i a = ap (λ (us : List Win). take i new ++ us) (drop_more old i no_window (old_there new old i a))
@@ -96,8 +107,8 @@ found_step new old i a =
     let there = a.there in
     let long : length (take i new) ≡ i = length-take-le i new (omega arith) in
     let at : slice_get (mixed i new old) i ≡ Some v = ap (λ (us : List Win). slice_get us i) (before_step new old i a) ∙ slice_get_seam (take i new) v (drop (i + 1) old) i long in
-    let single = single_bare new (mixed i new old) (mixed_bare new old i a.rest) a.stack.single in
-    let handle : (get_or new i no_window).handle ≡ v.handle = ap (λ (w : Win). w.handle) (bare_at new old i a) in
+    let single = single_rest new (mixed i new old) (mixed_rest new old i a.rest) a.stack.single in
+    let handle : (get_or new i no_window).handle ≡ v.handle = ap (λ (w : Win). w.handle) (rest_at new old i a) in
     (at, ap (window_of (mixed i new old)) handle ∙ window_of-single (mixed i new old) i v at (single v.handle))
   where
     slice_get_seam : (us : List Win) (v : Win) (vs : List Win) (i : ℕ) → length us ≡ i → slice_get (us ++ v ∷ vs) i ≡ Some v
@@ -113,19 +124,22 @@ put_step new old i a =
     let v = get_or old i no_window in
     let there = a.there in
     let long : length (take i new) ≡ i = length-take-le i new (omega arith) in
-    let single = single_bare new (mixed i new old) (mixed_bare new old i a.rest) a.stack.single in
-    ap (λ (k : ℕ). window_changed k (λ u. w) (mixed i new old)) (ap (λ (u : Win). u.handle) (bare_at new old i a))
+    let single = single_rest new (mixed i new old) (mixed_rest new old i a.rest) a.stack.single in
+    ap (λ (k : ℕ). window_changed k (λ u. w) (mixed i new old)) (ap (λ (u : Win). u.handle) (rest_at new old i a))
     ∙ sym (set_is_changed (mixed i new old) i v (λ u. w) single (found_step new old i a).0)
     ∙ ap (λ (us : List Win). set us i w) (before_step new old i a)
     ∙ set_at (take i new) v (drop (i + 1) old) w i long
     ∙ sym (after_step new old i a)
 
 -- where nothing of it changed it need not be put back
-pub stay_step : (new old : List Win) (i : ℕ) → AreAt new old i → (get_or new i no_window).invalid ≡ (get_or old i no_window).invalid → mixed i new old ≡ mixed (i + 1) new old
-stay_step new old i a e =
+pub stay_step : (new old : List Win) (i : ℕ) → AreAt new old i → (get_or new i no_window).invalid ≡ (get_or old i no_window).invalid → (get_or new i no_window).values ≡ (get_or old i no_window).values → mixed i new old ≡ mixed (i + 1) new old
+stay_step new old i a e values =
     let w = get_or new i no_window in
     let v = get_or old i no_window in
-    let same : v ≡ w = sym (ap (λ (u : Win). with_invalid u w.invalid) (bare_at new old i a) ∙ ap (λ (o : Option Rect). with_invalid v o) e) in
+    let same : v ≡ w =
+    sym (ap (λ (u : Win). record u { values = w.values; invalid = w.invalid }) (rest_at new old i a)
+    ∙ ap (λ (o : Option Rect). record v { values = w.values; invalid = o }) e
+    ∙ ap (λ (zs : List ℤ). record v { values = zs }) values) in
     before_step new old i a ∙ ap (λ (u : Win). take i new ++ (u ∷ drop (i + 1) old)) same ∙ sym (after_step new old i a)
 
 pub put_replaces : (new old : List Win) (i : ℕ) → AreAt new old i → IsReplacement (window_of (mixed i new old) (get_or new i no_window).handle) (get_or new i no_window)
@@ -133,11 +147,11 @@ put_replaces new old i a =
     let w = get_or new i no_window in
     let v = get_or old i no_window in
     let window = found_has IsWindow new w.handle w (window_of-single new i w (slice_get-get_or new i no_window a.there) (a.stack.single w.handle)) a.stack.windows in
-    subst (λ (o : Option Win). IsReplacement o w) (sym (found_step new old i a).1) (replaces v w (bare_at new old i a) window)
+    subst (λ (o : Option Win). IsReplacement o w) (sym (found_step new old i a).1) (replaces v w (rest_at new old i a) window)
   where
-    replaces : (v w : Win) → bare w ≡ bare v → IsWindow w → MayReplace v w
+    replaces : (v w : Win) → rest_of w ≡ rest_of v → IsWindow w → MayReplace v w
     replaces v w e window = record {
-      same = ap (λ (u : Win). with_invalid u w.invalid) e ∙ ap (λ (u : Win). record v { class = u.class; trans = u.trans; memdev = u.memdev; values = u.values; invalid = w.invalid }) (sym e);
+      same = ap (λ (u : Win). record u { values = w.values; invalid = w.invalid }) e ∙ ap (λ (u : Win). record v { class = u.class; trans = u.trans; memdev = u.memdev; values = w.values; invalid = w.invalid }) (sym e);
       invalid = window.invalid;
       desktop = λ one. (ap (λ (u : Win). u.class) e, ap (λ (u : Win). u.trans) e);
     }

@@ -1,5 +1,5 @@
 -- What the tree answers is what the core answers.
-use Rattle.std.proofs.Common.{◌≡◌, ◌≢◌, ℕ, ◌<◌, subst, arith, Bool, true, false, cond, eqb, List, [], ◌∷◌, ◌++◌, Option, Some, None, Result, Ok, Err, refl, sym, ap, ◌∙◌}
+use Rattle.std.proofs.Common.{◌≡◌, ◌≢◌, ℕ, ◌<◌, ◌≤◌, subst, arith, Bool, true, false, cond, eqb, List, [], ◌∷◌, ◌++◌, Option, Some, None, Result, Ok, Err, refl, sym, ap, ◌∙◌}
 use Rattle.std.specs.Prelude.{not, is_some, option_map, IfErr, OnErr, OnOk}
 use Rattle.scene.specs.declared.win.Win.{Win}
 use Rattle.scene.specs.Places.{window_of}
@@ -9,8 +9,9 @@ use Rattle.win_tree.specs.Refusals.{refusal_of_change, refusal_of_resize}
 use Rattle.win_tree.specs.declared.refused.TreeRefused.{TreeRefused}
 use Rattle.calls.specs.declared.reply.Refusal.{Refusal}
 use Rattle.gui_core.specs.Refusals.{refusal_for, told, Performs}
-use Rattle.gui_core.specs.Windows.{with_class}
-use Rattle.gui_core.specs.States.{refusal_of, unchangeable, bad_size, no_class}
+use Rattle.gui_core.specs.Windows.{with_class, with_trans}
+use Rattle.calls.specs.declared.reply.Refusal.TheVariants.{NoWindow, NoValue}
+use Rattle.gui_core.specs.States.{refusal_of, no_window, no_value, unchangeable, bad_size, no_class}
 use Rattle.gui_core.proofs.SceneLemmas.{found_handle}
 use Rattle.std.proofs.lemmas.Bool.{ne_eqb}
 use Rattle.std.proofs.lemmas.Bool.Decides.{nat_tests}
@@ -64,3 +65,26 @@ class_replaces ws h class w live other window =
     let R : Option Win → Type 0 = λ o. IsReplacement o (with_class class w) in
     subst R (sym (ap (window_of ws) handle ∙ live))
     (record { same = refl; invalid = window.invalid; desktop = λ one. absurd (other (sym handle ∙ one)) })
+
+-- ---- a window that is seen through, or no longer
+
+pub trans_reason : (ws : List Win) (h : ℕ) (w : Win) → window_of ws h ≡ Some w → h ≢ 1 → refusal_of (unchangeable ws h) ≡ None
+trans_reason ws h w live other = rw (live, ne_eqb h 1 other) refl
+
+pub trans_replaces : (ws : List Win) (h : ℕ) (trans : Bool) (w : Win) → window_of ws h ≡ Some w → h ≢ 1 → IsWindow w → IsReplacement (window_of ws w.handle) (with_trans trans w)
+trans_replaces ws h trans w live other window =
+    let handle = found_handle ws h w live in
+    let R : Option Win → Type 0 = λ o. IsReplacement o (with_trans trans w) in
+    subst R (sym (ap (window_of ws) handle ∙ live))
+    (record { same = refl; invalid = window.invalid; desktop = λ one. absurd (other (sym handle ∙ one)) })
+
+-- ---- values
+
+pub value_known : (ws : List Win) (h index : ℕ) (w : Win) → window_of ws h ≡ Some w → index < 16 → refusal_of (no_window ws h ∷ no_value index ∷ []) ≡ None
+value_known ws h index w live few = let test : nat_le 16 index ≡ false = grind (arith, nat_tests) in rw (live, test) refl
+
+pub value_unknown : (ws : List Win) (h index : ℕ) (w : Win) → window_of ws h ≡ Some w → 16 ≤ index → refusal_of (no_window ws h ∷ no_value index ∷ []) ≡ Some (NoValue index)
+value_unknown ws h index w live many = let test : nat_le 16 index ≡ true = grind (arith, nat_tests) in rw (live, test) refl
+
+pub value_nowhere : (ws : List Win) (h index : ℕ) → window_of ws h ≡ None → refusal_of (no_window ws h ∷ no_value index ∷ []) ≡ Some (NoWindow h)
+value_nowhere ws h index none = rw none refl

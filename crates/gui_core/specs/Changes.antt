@@ -5,8 +5,8 @@ use Rattle.scene.specs.Families.{without_family, raised, lowered, window_changed
 use Rattle.calls.specs.declared.call.Call.{Call}
 use Rattle.calls.specs.declared.call.Call.TheVariants as call
 use Rattle.gui_core.specs.declared.change.Change.{Change}
-use Rattle.gui_core.specs.declared.change.Change.TheVariants.{Delete, MoveTo, MoveBy, Resize, Show, Hide, ToTop, ToBottom, SetClass}
-use Rattle.gui_core.specs.Windows.{moved_by, with_class}
+use Rattle.gui_core.specs.declared.change.Change.TheVariants.{Delete, MoveTo, MoveBy, Resize, Show, Hide, ToTop, ToBottom, SetClass, SetTrans}
+use Rattle.gui_core.specs.Windows.{moved_by, with_class, with_trans}
 
 -- the call that asks for the change
 abbrev pub call_for : ℕ → Change → Call
@@ -19,6 +19,7 @@ call_for h Hide = call.Hide h
 call_for h ToTop = call.ToTop h
 call_for h ToBottom = call.ToBottom h
 call_for h (SetClass class) = call.SetClass h class
+call_for h (SetTrans trans) = call.SetTrans h trans
 
 -- the list after it
 abbrev pub list_after : ℕ → Change → List Win → List Win
@@ -31,3 +32,4 @@ list_after h Hide ws = window_changed h (with_shown false) ws
 list_after h ToTop ws = raised h ws
 list_after h ToBottom ws = lowered h ws
 list_after h (SetClass class) ws = window_changed h (with_class class) ws
+list_after h (SetTrans trans) ws = window_changed h (with_trans trans) ws

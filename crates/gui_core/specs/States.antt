@@ -9,15 +9,15 @@ use Rattle.scene.specs.Places.{window_of}
 use Rattle.scene.specs.Stacks.{is_bad_size, has_ancestors}
 use Rattle.scene.specs.Families.{new_window, desktop_with, on_top_of, without_family, raised, lowered, window_changed, moved_to, resized_to, with_shown}
 use Rattle.calls.specs.declared.call.Call.{Call}
-use Rattle.calls.specs.declared.call.Call.TheVariants.{Create, Delete, MoveTo, MoveBy, Resize, Show, Hide, ToTop, ToBottom, SetClass, Invalidate, InvalidateRect, InvalidateArea, Exec, Exec1, Scan}
+use Rattle.calls.specs.declared.call.Call.TheVariants.{Create, Delete, MoveTo, MoveBy, Resize, Show, Hide, ToTop, ToBottom, SetClass, Invalidate, InvalidateRect, InvalidateArea, Exec, Exec1, Scan, SetTrans, SetValue, Send}
 use Rattle.calls.specs.declared.entry.Entry.{Entry}
 use Rattle.calls.specs.declared.entry.Entry.TheVariants as entry
 use Rattle.calls.specs.declared.reply.Reply.{Reply}
 use Rattle.calls.specs.declared.reply.Reply.TheVariants.{Done, Handle, Jobs, Refused}
 use Rattle.calls.specs.declared.reply.Refusal.{Refusal}
-use Rattle.calls.specs.declared.reply.Refusal.TheVariants.{NoWindow, Desktop, BadSize, TooManyWindows, TooDeep, NoClass}
+use Rattle.calls.specs.declared.reply.Refusal.TheVariants.{NoWindow, Desktop, BadSize, TooManyWindows, TooDeep, NoClass, NoValue}
 use Rattle.gui_core.specs.Setups.{Setup, screen_of}
-use Rattle.gui_core.specs.Windows.{moved_by, with_class, after_change, with_invalid_window, with_invalid_rect, with_invalid_area}
+use Rattle.gui_core.specs.Windows.{moved_by, with_class, after_change, with_invalid_window, with_invalid_rect, with_invalid_area, with_trans, with_value, with_message}
 use Rattle.invalidate.specs.Invalidation.{is_invalid}
 use Rattle.gui_core.specs.Jobs.{windows_after_job, picture_after_job, jobs_of}
 
@@ -68,6 +68,10 @@ bad_size w h = (is_bad_size w h, BadSize)
 abbrev pub no_class : ℕ → ℕ → Objection
 no_class classes class = (nat_le classes class, NoClass class)
 
+-- a window has sixteen values
+abbrev pub no_value : ℕ → Objection
+no_value index = (nat_le 16 index, NoValue index)
+
 -- there is no such window, or it is the desktop, which stays as it is
 abbrev pub unchangeable : List Win → ℕ → List Objection
 unchangeable ws h = no_window ws h ∷ (h == 1, Desktop) ∷ []
@@ -86,6 +90,9 @@ objections classes ws (Hide h) = unchangeable ws h
 objections classes ws (ToTop h) = unchangeable ws h
 objections classes ws (ToBottom h) = unchangeable ws h
 objections classes ws (SetClass h class) = unchangeable ws h ++ no_class classes class ∷ []
+objections classes ws (SetTrans h trans) = unchangeable ws h
+objections classes ws (SetValue h index value) = no_window ws h ∷ no_value index ∷ []
+objections classes ws (Send h message argument) = no_window ws h ∷ []
 objections classes ws (Invalidate h) = no_window ws h ∷ []
 objections classes ws (InvalidateRect h x0 y0 x1 y1) = no_window ws h ∷ []
 objections classes ws (InvalidateArea x0 y0 x1 y1) = []
@@ -157,6 +164,12 @@ effect setup s (ToTop h) = changed setup s h (raised h s.windows)
 effect setup s (ToBottom h) = changed setup s h (lowered h s.windows)
 effect setup s (SetClass h class) =
     changed setup s h (window_changed h (with_class class) s.windows)
+effect setup s (SetTrans h trans) =
+    changed setup s h (window_changed h (with_trans trans) s.windows)
+effect setup s (SetValue h index value) =
+    with_windows s (with_value (screen_of setup) h index value s.windows)
+effect setup s (Send h message argument) =
+    with_windows s (with_message setup.assets (screen_of setup) h message argument s.windows)
 effect setup s (Invalidate h) =
     with_windows s (with_invalid_window (screen_of setup) h s.windows)
 effect setup s (InvalidateRect h x0 y0 x1 y1) =

@@ -25,6 +25,7 @@ pub enum Change {
     ToTop,
     ToBottom,
     SetClass { class: u8 },
+    SetTrans { trans: bool },
 }
 
 /// What the tree answered, as the core answers it.
@@ -74,6 +75,25 @@ fn set_class(tree: &mut Tree, h: u32, class: u8, classes: usize) -> Result<(), R
     Ok(())
 }
 
+/// Lets what lies behind a window be seen through it, or no longer.
+fn set_trans(tree: &mut Tree, h: u32, trans: bool) -> Result<(), Refusal>
+    requires { IsStack tree.old.windows }
+    ensures { Performs result
+        (refusal_of (objections 0 tree.old.windows (call_for h (Change.SetTrans trans))))
+        (list_after h (Change.SetTrans trans) tree.old.windows) tree.old tree.new }
+{
+    let Some(win) = tree.get(h) else {
+        return Err(Refusal::NoWindow(h));
+    };
+    if h == DESKTOP {
+        return Err(Refusal::Desktop);
+    }
+    let mut changed = *win;
+    changed.trans = trans;
+    tree.put(&changed);
+    Ok(())
+}
+
 /// Makes a change in the tree, where there are so many classes.
 pub fn perform(tree: &mut Tree, h: u32, change: Change, classes: usize) -> Result<(), Refusal>
     requires { IsStack tree.old.windows }
@@ -91,5 +111,6 @@ pub fn perform(tree: &mut Tree, h: u32, change: Change, classes: usize) -> Resul
         Change::ToTop => told(tree.to_top(h)),
         Change::ToBottom => told(tree.to_bottom(h)),
         Change::SetClass { class } => set_class(tree, h, class, classes),
+        Change::SetTrans { trans } => set_trans(tree, h, trans),
     }
 }

@@ -249,6 +249,23 @@ impl Gui {
         )
     }
 
+    fn set_value(&mut self, h: u32, index: u8, value: i16) -> Reply
+        ensures { Takes self.old (Call.SetValue h index value) self.new result }
+    {
+        let screen = screen(self.config.w, self.config.h);
+        answered(self.windows.set_value(h, index, value, &screen))
+    }
+
+    fn send(&mut self, h: u32, message: u8, argument: i16) -> Reply
+        ensures { Takes self.old (Call.Send h message argument) self.new result }
+    {
+        let screen = screen(self.config.w, self.config.h);
+        answered(
+            self.windows
+                .send(h, message, argument, &self.assets, &screen),
+        )
+    }
+
     fn invalidate(&mut self, h: u32) -> Reply
         ensures { Takes self.old (Call.Invalidate h) self.new result }
     {
@@ -304,6 +321,13 @@ impl Gui {
             Call::ToTop { h } => self.change(h, Change::ToTop),
             Call::ToBottom { h } => self.change(h, Change::ToBottom),
             Call::SetClass { h, class } => self.change(h, Change::SetClass { class }),
+            Call::SetTrans { h, trans } => self.change(h, Change::SetTrans { trans }),
+            Call::SetValue { h, index, value } => self.set_value(h, index, value),
+            Call::Send {
+                h,
+                message,
+                argument,
+            } => self.send(h, message, argument),
             Call::Invalidate { h } => self.invalidate(h),
             Call::InvalidateRect { h, x0, y0, x1, y1 } => {
                 self.invalidate_rect(h, &local_rect(x0, y0, x1, y1))

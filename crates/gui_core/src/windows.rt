@@ -7,12 +7,14 @@ ghost use Rattle.scene.specs.declared.win.Win.{Win as Window};
 ghost use Rattle.scene.specs.Clips.{clip_in};
 ghost use Rattle.scene.specs.Looks.{screen_with};
 ghost use Rattle.scene.specs.Places.{AreSingle};
-ghost use Rattle.scene.specs.Damage.{with_invalid, invalidated, areas_invalidated};
+ghost use Rattle.scene.specs.Damage.{invalidated, areas_invalidated};
 ghost use Rattle.scene.specs.Families.{new_window, desktop_with, on_top_of};
 ghost use Rattle.scene.specs.Stacks.{IsStack, AreGiven, desktop_screen};
 ghost use Rattle.invalidate.specs.Invalidation.{is_invalid, wholly_invalidated, on_screen, IsLocal};
-ghost use Rattle.calls.specs.declared.call.Call.TheVariants.{Create, Invalidate};
-ghost use Rattle.gui_core.specs.Windows.{is_as_it_was, are_as_they_were, clip_at, listed, after_change, with_invalid_window, with_invalid_rect, with_invalid_area};
+ghost use Rattle.calls.specs.declared.call.Call.TheVariants.{Create, SetValue, Send, Invalidate};
+ghost use Rattle.paint_ops.specs.Soundness.{IsSound};
+ghost use Rattle.messages.specs.Delivery.{rest_of, with_new_values, delivered};
+ghost use Rattle.gui_core.specs.Windows.{is_as_it_was, are_as_they_were, clip_at, listed, after_change, with_value, with_message, with_invalid_window, with_invalid_rect, with_invalid_area};
 ghost use Rattle.gui_core.specs.Jobs.{windows_after_job};
 ghost use Rattle.gui_core.specs.Changes.{call_for, list_after};
 ghost use Rattle.gui_core.specs.Refusals.{Performs, Creates};
@@ -24,10 +26,15 @@ use crate::refusals::refusal_of_create;
 use calls::Refusal;
 use gfx_base::{Memory, Rect};
 use invalidate::{area, rect, window};
+use messages::{deliver, put_values};
+use paint_ops::Assets;
 use scene::{Stack, Win, ground};
 use std::alloc::Global;
 use std::marker::Model;
 use win_tree::Tree;
+
+/// How many values a window has.
+const VALUES: u8 = 16;
 
 /// A new window: its parent's handle, its place, its sides in points, and its class.
 #[derive(Clone, Copy)]
@@ -76,14 +83,15 @@ fn clip_at(stack: &[Win], h: u32, screen: &Rect) -> Option<Rect>
     Some(ground(stack, at, screen))
 }
 
-/// Whether a window is in its place, of its sides and class, and shown or hidden as it was.
+/// Whether a window is in its place, of its sides and class, and shown or hidden, and seen through
+/// or not, as it was.
 fn is_as_it_was(w: &Win, v: &Win) -> bool
     ensures { result ≡ is_as_it_was w.now v.now }
 {
     w.handle == v.handle
         && w.class == v.class
         && (w.x == v.x && w.y == v.y)
-        && (w.w == v.w && w.h == v.h && w.shown == v.shown)
+        && (w.w == v.w && w.h == v.h && w.shown == v.shown && w.trans == v.trans)
 }
 
 /// Whether a list is as it was.
@@ -148,6 +156,46 @@ fn invalidate_rect_at(stack: &mut Stack, at: usize, local: &Rect, screen: &Rect)
     rect(stack.as_mut_slice(), at, local, screen);
 }
 
+/// Values of which one is another number.
+fn with_one(values: &[i16; 16], index: u8, value: i16) -> [i16; 16]
+    requires { index < 16 }
+    ensures { result ≡ slice_set values.now index value }
+{
+    let mut changed = *values;
+    changed[usize::from(index)] = value;
+    changed
+}
+
+/// Gives the window at a place these values.
+fn put_values_at(stack: &mut Stack, at: usize, values: &[i16; 16], screen: &Rect)
+    requires { at < length stack.old.items }
+    ensures { (w : Window) → slice_get stack.old.items at ≡ Some w
+        → stack.new.items
+        ≡ slice_set stack.old.items at
+        (with_new_values screen.now stack.old.items values.now w) }
+{
+    put_values(stack.as_mut_slice(), at, values, screen);
+}
+
+/// Delivers a message to the window at a place.
+fn deliver_at(
+    stack: &mut Stack,
+    at: usize,
+    message: u8,
+    argument: i16,
+    assets: &Assets,
+    screen: &Rect,
+)
+    requires place { at < length stack.old.items }
+    requires single { AreSingle stack.old.items }
+    requires assets { IsSound assets.now }
+    ensures { (w : Window) → slice_get stack.old.items at ≡ Some w
+        → stack.new.items
+        ≡ delivered assets.now screen.now message argument w stack.old.items }
+{
+    deliver(stack.as_mut_slice(), at, message, argument, assets, screen);
+}
+
 /// Makes the first invalid window valid, which is the one at a place.
 fn make_valid_at(stack: &mut Stack, which: usize)
     requires { position is_invalid stack.old.items ≡ Some which }
@@ -156,23 +204,24 @@ fn make_valid_at(stack: &mut Stack, which: usize)
     make_valid(stack.as_mut_slice(), which);
 }
 
-/// Whether both windows wait to be painted in one rectangle, or neither does.
-fn wait_alike(w: &Win, v: &Win) -> bool
-    ensures { OnTrue result (w.now.invalid ≡ v.now.invalid) }
+/// Whether both windows have the same values and wait to be painted in one rectangle, or neither
+/// does.
+fn are_alike(w: &Win, v: &Win) -> bool
+    ensures { OnTrue result
+        ((w.now.invalid ≡ v.now.invalid) × (w.now.values ≡ v.now.values)) }
 {
-    w.invalid == v.invalid
+    w.invalid == v.invalid && w.values == v.values
 }
 
 /// Puts those windows into the tree that differ from what they were.
 fn put_back(tree: &mut Tree, old: &[Win], new: &[Win])
     requires tree { tree.old.windows ≡ old.now }
     requires stack { IsStack new.now }
-    requires rest { map (λ w. with_invalid w None) new.now
-        ≡ map (λ w. with_invalid w None) old.now }
+    requires rest { map rest_of new.now ≡ map rest_of old.now }
     ensures { tree.new ≡ record tree.old { windows = new.now } }
 {
     for (i, w) in new.iter().enumerate() {
-        if !wait_alike(w, &old[i]) {
+        if !are_alike(w, &old[i]) {
             tree.put(w);
         }
     }
@@ -291,6 +340,49 @@ impl Windows {
             before,
             screen,
         );
+        Ok(())
+    }
+
+    /// Gives one of a window's values another number.
+    pub fn set_value(&mut self, h: u32, index: u8, value: i16, screen: &Rect) -> Result<(), Refusal>
+        ensures { Performs result
+            (refusal_of (objections 0 self.old.windows (SetValue h index value)))
+            (with_value screen.now h index value self.old.windows) self.old self.new }
+    {
+        let Some(at) = place_of(&self.stack, h) else {
+            return Err(Refusal::NoWindow(h));
+        };
+        if index >= VALUES {
+            return Err(Refusal::NoValue(index));
+        }
+        let values = with_one(&self.stack[at].values, index, value);
+        take_over(&mut self.order, self.stack.as_slice());
+        put_values_at(&mut self.stack, at, &values, screen);
+        put_back(&mut self.tree, &self.order, &self.stack);
+        Ok(())
+    }
+
+    /// Delivers a message to a window.
+    pub fn send(
+        &mut self,
+        h: u32,
+        message: u8,
+        argument: i16,
+        assets: &Assets,
+        screen: &Rect,
+    ) -> Result<(), Refusal>
+        requires { IsSound assets.now }
+        ensures { Performs result
+            (refusal_of (objections 0 self.old.windows (Send h message argument)))
+            (with_message assets.now screen.now h message argument self.old.windows)
+            self.old self.new }
+    {
+        let Some(at) = place_of(&self.stack, h) else {
+            return Err(Refusal::NoWindow(h));
+        };
+        take_over(&mut self.order, self.stack.as_slice());
+        deliver_at(&mut self.stack, at, message, argument, assets, screen);
+        put_back(&mut self.tree, &self.order, &self.stack);
         Ok(())
     }
 

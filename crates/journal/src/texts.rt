@@ -110,6 +110,7 @@ fn write_refusal<K: Sink>(out: &mut K, refusal: &Refusal) -> Result<(), SinkFaul
         Refusal::TooManyWindows => out.write(b"refused TooManyWindows\n"),
         Refusal::TooDeep => out.write(b"refused TooDeep\n"),
         Refusal::NoClass(class) => write_number(out, b"refused NoClass ", *class),
+        Refusal::NoValue(index) => write_number(out, b"refused NoValue ", *index),
     }
 }
 

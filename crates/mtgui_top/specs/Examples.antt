@@ -1,5 +1,5 @@
 -- Small scripts.
-use Rattle.std.specs.Prelude.{ℕ, pos, List, [], ◌∷◌, map}
+use Rattle.std.specs.Prelude.{ℕ, pos, List, [], ◌∷◌, map, Some}
 use Rattle.paint_ops.specs.Kinds.{Assets}
 use Rattle.calls.specs.declared.call.Call.TheVariants.{Create, Exec, Scan}
 use Rattle.script.specs.Scripts.{Script, no_assets, plain_class, script_for}
@@ -7,7 +7,8 @@ use Rattle.script.specs.Examples.{by_task_1, small_listing}
 
 -- what windows of classes paint with that have a back colour alone
 abbrev pub plain_assets : List ℕ → Assets
-plain_assets colours = record no_assets { classes = map plain_class colours }
+plain_assets colours =
+    record no_assets { classes = map (λ colour. plain_class (Some colour)) colours }
 
 -- a blue window of three by two points on a black screen is made, painted and looked at
 abbrev pub first_script : Script

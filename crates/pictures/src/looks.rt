@@ -5,11 +5,21 @@ use outside::{MemSink, MemStore, NamedFile};
 use std::alloc::{AllocError, Global};
 use std::str;
 
-/// The first lines of each script. Two of its classes draw.
-pub const HEADER: &str = "mtgui 1\nscreen 24 16\nbuffers 1\ndesktop 000000\nclass 1 0000FF\n\
-    frame 0 0 w-1 h-1 8080FF\nline 1 1 w-2 h-2 C0C0FF\nend\nclass 2 00FF00\nend\n\
+/// The first lines of each script. Its classes draw by their windows' values, and through one of
+/// them one sees; some react to messages, and hand them on to the windows that they lie in.
+pub const HEADER: &str = "mtgui 1\nscreen 24 16\nbuffers 1\ndesktop 000000\n\
+    font 0 3\nglyph 45 2\n..\n##\n..\nglyph 48 2\n##\n##\n##\nglyph 49 1\n#\n#\n#\n\
+    glyph 50 2\n##\n.#\n#.\nglyph 55 2\n##\n.#\n.#\nglyph 65 3\n.#.\n###\n#.#\nend\n\
+    bitmap 0 4 3\nFF8000 -*2 FF8000\n-*3 80FF00\n8000FF -*3\nend\nstring 0 A1 0\n\
+    class 1 0000FF\nframe 0 0 w-1 h-1 8080FF\nline 1 1 w-2 h-2 C0C0FF\n\
+    fill 1 1 v0 2 FFC000\non 0 set 0 a\non 0 add 1 -3\non 0 up 1\non 1 add 0 a\non 1 up 2\nend\n\
+    class 2 00FF00\nfill 0 v1 v0-1 h-2 006000\nnumber 0 1 1 FFFFC0 v0+10\n\
+    on 1 add 0 2\non 1 add 1 a\non 1 up 0\non 1 up 3\non 2 set 1 1\non 2 set 0 a\nend\n\
     class 3 FF0000\nfill 1 h-3 w-2 h-2 FF8080\nhline -2 w+2 0 FFC0C0\nvline w-1 0 h 800000\n\
-    end\nclass 4 FFFFFF\nend\n";
+    bitmap 0 1 v1-1\non 0 up 0\non 2 add 1 1\non 2 up 2\nend\n\
+    class 4 FFFFFF\ntext 0 1 v1+1 202020 0\non 1 up 1\non 3 add 1 32767\non 3 add 1 -32766\nend\n\
+    class 5 -\nframe 0 0 v0+2 h-1 FFFF00\nline 0 v1 w-1 h-1 00FFFF\nbitmap 0 w-5 2\n\
+    number 0 2 3 FF00FF v1\non 0 set 1 a\non 0 up 1\non 1 add 1 2\non 1 set 0 4\non 1 up 0\nend\n";
 
 /// Room for what a command writes of a script.
 const ROOM: usize = 100_000;

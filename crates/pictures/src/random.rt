@@ -5,9 +5,9 @@ ghost use Rattle.std.specs.Prelude.{◌<◌};
 use crate::looks::{HEADER, Looks};
 use std::alloc::{AllocError, Global};
 
-/// Calls name handles below this at first. One call in eight makes a window, by and large, so
-/// there is a handle more after each eight calls, and some of them name no window.
-const HANDLES: u16 = 14;
+/// Calls name handles below this at first. One call in twelve makes a window, by and large, so
+/// there is a handle more after each twelve calls, and some of them name no window.
+const HANDLES: u16 = 10;
 
 /// Numbers that look random, each made from the one before.
 #[derive(Drop)]
@@ -45,15 +45,53 @@ fn add_create(numbers: &mut Numbers, script: &mut String, handles: u16) -> Resul
     let (x, y) = place(numbers);
     let w = numbers.below(16);
     let h = numbers.below(12);
-    let class = numbers.below(6);
+    let class = numbers.below(7);
     writeln!(script, "1 create {parent} {x} {y} {w} {h} {class}")
 }
 
-/// Adds a call on a window of this handle, which may be refused too.
+/// A value or an argument of a message: mostly one that fits on the screen, or an end of the range.
+fn value(numbers: &mut Numbers) -> i32 {
+    match numbers.below(10) {
+        0 => 32_767,
+        1 => -32_768,
+        _ => i32::from(numbers.below(20)) - 6,
+    }
+}
+
+/// Adds a call on how a window of this handle looks: its class, whether it is seen through, and its
+/// values, by themselves or by a message. It may be refused, also for a value past the last.
+fn add_look(numbers: &mut Numbers, script: &mut String, h: u16) -> Result<(), AllocError> {
+    let value = value(numbers);
+    match numbers.below(8) {
+        0 => {
+            let class = numbers.below(7);
+            writeln!(script, "1 set_class {h} {class}")
+        }
+        1 | 2 => {
+            let trans = numbers.below(2);
+            writeln!(script, "1 set_trans {h} {trans}")
+        }
+        3 => {
+            let index = numbers.below(17);
+            writeln!(script, "1 set_value {h} {index} {value}")
+        }
+        4 => {
+            let index = numbers.below(2);
+            writeln!(script, "1 set_value {h} {index} {value}")
+        }
+        _ => {
+            let message = numbers.below(5);
+            writeln!(script, "1 send {h} {message} {value}")
+        }
+    }
+}
+
+/// Adds a call on the place of a window of this handle, on whether it is there or on what of it is
+/// invalid, which may be refused too.
 fn add_change(numbers: &mut Numbers, script: &mut String, h: u16) -> Result<(), AllocError> {
     let (x, y) = place(numbers);
     let w = numbers.below(16);
-    match numbers.below(11) {
+    match numbers.below(10) {
         0 => writeln!(script, "1 delete {h}"),
         1 => writeln!(script, "1 move_to {h} {x} {y}"),
         2 => writeln!(script, "1 move_by {h} {x} {y}"),
@@ -62,8 +100,7 @@ fn add_change(numbers: &mut Numbers, script: &mut String, h: u16) -> Result<(), 
         5 => writeln!(script, "1 hide {h}"),
         6 => writeln!(script, "1 to_top {h}"),
         7 => writeln!(script, "1 to_bottom {h}"),
-        8 => writeln!(script, "1 set_class {h} {w}"),
-        9 => writeln!(script, "1 invalidate {h}"),
+        8 => writeln!(script, "1 invalidate {h}"),
         _ => writeln!(script, "1 invalidate_rect {h} {x} {y} {w} 9"),
     }
 }
@@ -73,13 +110,17 @@ fn add_change(numbers: &mut Numbers, script: &mut String, h: u16) -> Result<(), 
 fn add_call(numbers: &mut Numbers, script: &mut String, handles: u16) -> Result<(), AllocError>
     requires { 0 < handles }
 {
-    match numbers.below(7) {
+    match numbers.below(10) {
         0 => script.push_str("1 exec1\n"),
         1 => {
             let (x, y) = place(numbers);
             writeln!(script, "1 invalidate_area {x} {y} 9 9")
         }
         2 | 3 => add_create(numbers, script, handles),
+        4 | 5 | 6 => {
+            let h = numbers.below(handles);
+            add_look(numbers, script, h)
+        }
         _ => {
             let h = numbers.below(handles);
             add_change(numbers, script, h)
@@ -87,17 +128,28 @@ fn add_call(numbers: &mut Numbers, script: &mut String, handles: u16) -> Result<
     }
 }
 
+/// Adds a line on the lock, where it is held during the call beside it.
+fn add_lock(script: &mut String, held: bool, line: &str) -> Result<(), AllocError> {
+    if held { script.push_str(line) } else { Ok(()) }
+}
+
 /// Makes a script of so many calls, one in eight of which paints all, and looks at the picture
-/// after each of these.
+/// after each of these. During some calls a task holds the lock.
 fn look(alloc: Global, numbers: &mut Numbers, calls: u16, before: Looks) -> Option<Looks> {
     let mut looks = before;
     let mut script = String::from_str(alloc, HEADER).ok()?;
     for call in 0..calls {
-        if numbers.below(8) == 0 {
+        let locked = numbers.below(6) == 0;
+        let paints = numbers.below(8) == 0;
+        add_lock(&mut script, locked, "1 lock\n").ok()?;
+        if paints {
             script.push_str("1 exec\n").ok()?;
-            looks = looks.look(alloc, script.as_str())?;
         } else {
-            add_call(numbers, &mut script, HANDLES + call / 8).ok()?;
+            add_call(numbers, &mut script, HANDLES + call / 12).ok()?;
+        }
+        add_lock(&mut script, locked, "1 unlock\n").ok()?;
+        if paints {
+            looks = looks.look(alloc, script.as_str())?;
         }
     }
     Some(looks)

@@ -22,9 +22,9 @@ use Rattle.script.specs.declared.draft.Block.TheVariants as block
 use Rattle.script.specs.declared.fault.Reason.{Reason}
 use Rattle.script.specs.declared.fault.Reason.TheVariants as reason
 use Rattle.script.specs.declared.fault.LineError.{LineError}
-use Rattle.script.specs.Scripts.{class_fields, class_text, font_fields, font_text, bitmap_fields, bitmap_text, plain_class, class_with, may_have, IsClassLine, AreClassLines, class_of, Item, FontOf, BitmapOf, ClassOf, Before, IsEarly, after, Spells}
-use Rattle.script.specs.Faults.{OpensBlock}
-use Rattle.script.specs.Reading.{class_after, font_after, bitmap_after, block_after, with_block, IsBlock, IsClosed, TakesBlock}
+use Rattle.script.specs.Scripts.{class_text, font_fields, font_text, bitmap_fields, bitmap_text, plain_class, class_with, may_have, IsClassLine, AreClassLines, class_of, Item, FontOf, BitmapOf, ClassOf, Before, IsEarly, after, Spells, HeadFits}
+use Rattle.script.specs.Faults.{OpensClass, OpensFont, OpensBitmap}
+use Rattle.script.specs.Reading.{class_after, font_after, bitmap_after, block_after, with_block, IsBlock, IsClosed, TakesBlock, drawing_reason}
 
 -- ---- one line
 
@@ -44,13 +44,13 @@ class_gone assets class (Some l) c whole is =
       | inr none ↦ absurd (cc (none.1))
     ]
 
-font_gone : (o : Option fonts.Draft) (c : Block) (whole : Bool) → font_after o ≡ Ok (c, whole) → (f : fonts.Draft) × (o ≡ Some f) × (block.Font f ≡ c) × (fonts.is_whole f ≡ whole)
-font_gone None c whole is = absurd cc
-font_gone (Some f) c whole is = let same = gone_same (block.Font f, fonts.is_whole f) (c, whole) is in (f, refl, same.0, same.1)
+font_gone : (line : List ℕ) (o : Option fonts.Draft) (c : Block) (whole : Bool) → font_after line o ≡ Ok (c, whole) → (f : fonts.Draft) × (o ≡ Some f) × (block.Font f ≡ c) × (fonts.is_whole f ≡ whole)
+font_gone line None c whole is = absurd cc
+font_gone line (Some f) c whole is = let same = gone_same (block.Font f, fonts.is_whole f) (c, whole) is in (f, refl, same.0, same.1)
 
-bitmap_gone : (o : Option bitmaps.Draft) (c : Block) (whole : Bool) → bitmap_after o ≡ Ok (c, whole) → (b : bitmaps.Draft) × (o ≡ Some b) × (block.Bitmap b ≡ c) × (bitmaps.is_whole b ≡ whole)
-bitmap_gone None c whole is = absurd cc
-bitmap_gone (Some b) c whole is = let same = gone_same (block.Bitmap b, bitmaps.is_whole b) (c, whole) is in (b, refl, same.0, same.1)
+bitmap_gone : (line : List ℕ) (o : Option bitmaps.Draft) (c : Block) (whole : Bool) → bitmap_after line o ≡ Ok (c, whole) → (b : bitmaps.Draft) × (o ≡ Some b) × (block.Bitmap b ≡ c) × (bitmaps.is_whole b ≡ whole)
+bitmap_gone line None c whole is = absurd cc
+bitmap_gone line (Some b) c whole is = let same = gone_same (block.Bitmap b, bitmaps.is_whole b) (c, whole) is in (b, refl, same.0, same.1)
 
 -- a line of a class is its end, or one of its lines
 abbrev ClassGone : Assets → Class → List ℕ → Block → Bool → Type 0
@@ -68,11 +68,11 @@ class_line_gone assets class line c whole is =
 
 font_line_gone : (assets : Assets) (font : fonts.Draft) (line : List ℕ) (c : Block) (whole : Bool) → block_after assets (block.Font font) line ≡ Ok (c, whole) → (f : fonts.Draft) × (fonts.after_line font line ≡ Some f) × (block.Font f ≡ c) × (fonts.is_whole f ≡ whole)
 unfolding block_after
-font_line_gone assets font line c whole is = font_gone (fonts.after_line font line) c whole is
+font_line_gone assets font line c whole is = font_gone line (fonts.after_line font line) c whole is
 
 bitmap_line_gone : (assets : Assets) (bitmap : bitmaps.Draft) (line : List ℕ) (c : Block) (whole : Bool) → block_after assets (block.Bitmap bitmap) line ≡ Ok (c, whole) → (b : bitmaps.Draft) × (bitmaps.after_line bitmap line ≡ Some b) × (block.Bitmap b ≡ c) × (bitmaps.is_whole b ≡ whole)
 unfolding block_after
-bitmap_line_gone assets bitmap line c whole is = bitmap_gone (bitmaps.after_line bitmap line) c whole is
+bitmap_line_gone assets bitmap line c whole is = bitmap_gone line (bitmaps.after_line bitmap line) c whole is
 
 -- ---- what blocks keep
 
@@ -110,8 +110,8 @@ closes assets b c line r is takes whole = may_close assets b c line is (subst (�
 
 -- a class's first line, and lines of it
 pub record SaysClass (b : Before) (class : Class) (part : List (List ℕ)) : Type 0 where
-  pub back : ℕ
-  pub counted : AreIn class_fields (length b.said.assets.classes, (back, tt))
+  pub back : Option ℕ
+  pub counted : HeadFits (length b.said.assets.classes) back
   pub lines : List ClassLine
   pub is : class ≡ class_of back lines
   pub body : List (List ℕ)
@@ -148,14 +148,18 @@ not_after font unfinished after = let whole : fonts.is_whole font ≡ true = ap 
 not_at_end : (bitmap : bitmaps.Draft) → bitmaps.is_whole bitmap ≡ false → bitmap.place ≡ bitmap_place.AfterEnd → ⊥
 not_at_end bitmap unfinished after = let whole : bitmaps.is_whole bitmap ≡ true = ap bitmaps.is_end after in absurd (cc (sym whole ∙ unfinished))
 
-pub says_opens : (b : Before) (c : Block) (part : List (List ℕ)) → Says b c part → OpensBlock b part
-says_opens b (block.Class class) part says = inl (record { back = says.back; counted = says.counted; lines = says.lines; body = says.body; are = says.are; spelled = says.spelled })
-says_opens b (block.Font font) part says =
+pub class_opens : (b : Before) (class : Class) (part : List (List ℕ)) → SaysClass b class part → OpensClass b part
+class_opens b class part says = record { back = says.back; counted = says.counted; lines = says.lines; body = says.body; are = says.are; spelled = says.spelled }
+
+pub font_opens : (b : Before) (font : fonts.Draft) (part : List (List ℕ)) → SaysFont b font part → OpensFont b part
+font_opens b font part says =
     let reading = font_laws.reading says.height says.counted.1.0.0 says.counted.1.0.1 in
-    inr (inl (record { height = says.height; counted = says.counted; body = says.body; place = font.place; are = reading.sound says.body font says.read; open_ = not_after font says.unfinished; spelled = says.spelled }))
-says_opens b (block.Bitmap bitmap) part says =
+    record { height = says.height; counted = says.counted; body = says.body; place = font.place; are = reading.sound says.body font says.read; open_ = not_after font says.unfinished; spelled = says.spelled }
+
+pub bitmap_opens : (b : Before) (bitmap : bitmaps.Draft) (part : List (List ℕ)) → SaysBitmap b bitmap part → OpensBitmap b part
+bitmap_opens b bitmap part says =
     let reading = bitmap_laws.reading says.width says.height in
-    inr (inr (record { width = says.width; height = says.height; counted = says.counted; body = says.body; place = bitmap.place; are = reading.sound says.body bitmap says.read; open_ = not_at_end bitmap says.unfinished; spelled = says.spelled }))
+    record { width = says.width; height = says.height; counted = says.counted; body = says.body; place = bitmap.place; are = reading.sound says.body bitmap says.read; open_ = not_at_end bitmap says.unfinished; spelled = says.spelled }
 
 -- ---- one line more
 
@@ -289,20 +293,26 @@ class_reason assets class (Some l) why is =
       | inr none ↦ cc (none.1)
     ]
 
-font_reason : (o : Option fonts.Draft) (why : Reason) → font_after o ≡ Err why → reason.Block ≡ why
-font_reason None why is = cc
-font_reason (Some f) why is = absurd cc
+font_reason : (line : List ℕ) (o : Option fonts.Draft) (why : Reason) → font_after line o ≡ Err why → drawing_reason line ≡ why
+font_reason line None why is = cc
+font_reason line (Some f) why is = absurd cc
 
-bitmap_reason : (o : Option bitmaps.Draft) (why : Reason) → bitmap_after o ≡ Err why → reason.Block ≡ why
-bitmap_reason None why is = cc
-bitmap_reason (Some b) why is = absurd cc
+bitmap_reason : (line : List ℕ) (o : Option bitmaps.Draft) (why : Reason) → bitmap_after line o ≡ Err why → drawing_reason line ≡ why
+bitmap_reason line None why is = cc
+bitmap_reason line (Some b) why is = absurd cc
 
-pub block_reason : (assets : Assets) (c : Block) (line : List ℕ) (why : Reason) → block_after assets c line ≡ Err why → reason.Block ≡ why
+-- what is held against a line in a block
+abbrev pub reason_in : Block → List ℕ → Reason
+reason_in (block.Class class) line = reason.Block
+reason_in (block.Font font) line = drawing_reason line
+reason_in (block.Bitmap bitmap) line = drawing_reason line
+
+pub block_reason : (assets : Assets) (c : Block) (line : List ℕ) (why : Reason) → block_after assets c line ≡ Err why → reason_in c line ≡ why
 unfolding block_after
 block_reason assets (block.Class class) line why is =
     elim (chosen (bytes_eq line (codes "end")) (Gone (block.Class class) true) (class_after assets class (class_line_of (words_of line))) (Err why) is) [
       | inl end ↦ absurd (cc (end.1))
       | inr other ↦ class_reason assets class (class_line_of (words_of line)) why other.1
     ]
-block_reason assets (block.Font font) line why is = font_reason (fonts.after_line font line) why is
-block_reason assets (block.Bitmap bitmap) line why is = bitmap_reason (bitmaps.after_line bitmap line) why is
+block_reason assets (block.Font font) line why is = font_reason line (fonts.after_line font line) why is
+block_reason assets (block.Bitmap bitmap) line why is = bitmap_reason line (bitmaps.after_line bitmap line) why is

@@ -1,5 +1,5 @@
 -- Bodies of classes: one text has one meaning, they end at the first line `end`, and their classes are sound.
-use Rattle.std.proofs.Common.{◌≡◌, ℕ, ◌<◌, ◌≤◌, true, false, ltb, List, [], ◌∷◌, ◌++◌, length, refl, sym, ap, subst, ◌∙◌, arith}
+use Rattle.std.proofs.Common.{◌≡◌, ℕ, Option, ◌<◌, ◌≤◌, true, false, ltb, List, [], ◌∷◌, ◌++◌, length, refl, sym, ap, subst, ◌∙◌, arith}
 use Rattle.std.specs.Prelude.{codes}
 use Rattle.std.specs.List.{AllByRecursion}
 use Rattle.std.proofs.lemmas.Bool.{and_parts, ltb-true}
@@ -37,7 +37,7 @@ lines_apart assets = record {
 }
 
 -- a body is that of one list of lines
-pub one_body : (assets : Assets) (back : ℕ) (ls ms : List ClassLine) (body : List (List ℕ)) → AreClassLines assets back ls body → AreClassLines assets back ms body → ls ≡ ms
+pub one_body : (assets : Assets) (back : Option ℕ) (ls ms : List ClassLine) (body : List (List ℕ)) → AreClassLines assets back ls body → AreClassLines assets back ms body → ls ≡ ms
 one_body assets back ls ms body are also = one_list (IsClassLine assets) class_with (lines_apart assets) (plain_class back) ls ms body are also
 
 -- ---- the end
@@ -60,7 +60,7 @@ lines_without_end assets class (l ∷ ls) body are =
     let one : Without (codes "end") are.1 = subst (Without (codes "end")) (sym are.5.spelled) (no_end l are.5.fits, tt) in
     subst (Without (codes "end")) (sym are.3) (both_without are.0 (are.1 ++ are.2) (comments_without_end are.0 are.4) (both_without are.1 are.2 one more))
 
-pub without_end : (assets : Assets) (back : ℕ) (lines : List ClassLine) (body : List (List ℕ)) → AreClassLines assets back lines body → Without (codes "end") body
+pub without_end : (assets : Assets) (back : Option ℕ) (lines : List ClassLine) (body : List (List ℕ)) → AreClassLines assets back lines body → Without (codes "end") body
 without_end assets back lines body are = lines_without_end assets (plain_class back) lines body are
 
 -- ---- sound classes
@@ -115,5 +115,5 @@ lines_sound : (assets : Assets) (class : Class) (lines : List ClassLine) (body :
 lines_sound assets class [] body are is = is
 lines_sound assets class (l ∷ ls) body are is = lines_sound assets (class_with class l) ls are.2 are.6 (line_sound assets class l are.5.room are.5.fits is)
 
-pub class_sound : (assets : Assets) (back : ℕ) (lines : List ClassLine) (body : List (List ℕ)) → AreClassLines assets back lines body → IsClass assets (class_of back lines)
+pub class_sound : (assets : Assets) (back : Option ℕ) (lines : List ClassLine) (body : List (List ℕ)) → AreClassLines assets back lines body → IsClass assets (class_of back lines)
 class_sound assets back lines body are = lines_sound assets (plain_class back) lines body are (record { few_ops = omega arith; few_reactions = omega arith; ops = tt; reactions = tt })

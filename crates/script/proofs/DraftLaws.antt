@@ -22,16 +22,17 @@ use Rattle.script.specs.declared.draft.Stage.TheVariants as stage
 use Rattle.script.specs.declared.fault.Reason.{Reason}
 use Rattle.script.specs.declared.fault.Reason.TheVariants as reason
 use Rattle.script.specs.Fields.{screen_in, desktop_in, class_in, string_in, font_in, bitmap_in}
-use Rattle.script.specs.Later.{is_one_of, asset_words, is_later_class}
-use Rattle.script.specs.Scripts.{screen_fields, desktop_fields, class_fields, class_text, string_text, with_string, Item, Title, Screen, Buffers, Desktop, StringOf, CallOf, Before, nothing, after, Spells, plain_class, font_fields, font_text, bitmap_fields, bitmap_text, may_do}
-use Rattle.script.specs.Faults.{IsFront, StandsAt, AreWhole}
+use Rattle.script.specs.Later.{is_one_of, asset_words}
+use Rattle.script.specs.Scripts.{screen_fields, desktop_fields, class_text, string_text, with_string, Item, Title, Screen, Buffers, Desktop, StringOf, CallOf, Before, nothing, after, Spells, plain_class, font_fields, font_text, bitmap_fields, bitmap_text, may_do, HeadFits}
+use Rattle.script.specs.Faults.{IsFront, StandsAt, AreWhole, AreOpen, OpensClass, OpensDrawing}
 use Rattle.script.specs.Reading.{Draft, after_value, after_title, after_screen, after_buffers, after_desktop, after_block, after_class, after_string, after_early, after_asset, after_other, after_call, after_body, after_words, after_line, with_screen, with_colour, opened, before_at, place_at, place_of, header_reason, call_reason, empty_draft, gone_on, block_after, closed, after_font, after_bitmap, takes_comments, IsBlock, IsStage, IsDraft, with_call, after_call_line}
 use Rattle.glyph_font.specs.Reading as fonts
 use Rattle.bitmap.specs.Reading as bitmaps
 use Rattle.glyph_font.proofs.CallerLemmas as font_laws
 use Rattle.bitmap.proofs.CallerLemmas as bitmap_laws
 use Rattle.script.proofs.StringLaws.{string_taken}
-use Rattle.script.proofs.BlockLaws.{block_kept, Says, says_opens, says_more, says_whole, class_comment}
+use Rattle.script.proofs.ClassHeadLaws.{head_taken}
+use Rattle.script.proofs.BlockLaws.{block_kept, Says, class_opens, font_opens, bitmap_opens, says_more, says_whole, class_comment}
 
 -- ---- where a draft stands
 
@@ -192,23 +193,21 @@ call_stands d e lines line l body has read is =
 opens_block : (d : Draft) (lines : List (List ℕ)) (first : List ℕ) (c : Block) → HasItems 4 d lines → length d.said.lines ≡ 0 → Says (before_at 4 d) c (first ∷ []) → HasBlock (opened d c) c (lines ++ first ∷ [])
 opens_block d lines first c has none says = record { front = lines; has = has; none = none; part = first ∷ []; says = says; parts = refl }
 
-class_stands : (d e : Draft) (lines : List (List ℕ)) (line : List ℕ) (words : List (List ℕ)) (o : Option (Values class_fields)) → HasItems 4 d lines → length d.said.lines ≡ 0 → words_of line ≡ codes "class" ∷ words → class_in words ≡ o → after_class d o ≡ Ok e → Next e lines line
-unfolding class_in
+class_stands : (d e : Draft) (lines : List (List ℕ)) (line : List ℕ) (words : List (List ℕ)) (o : Option (ℕ × Option ℕ)) → HasItems 4 d lines → length d.said.lines ≡ 0 → words_of line ≡ codes "class" ∷ words → class_in words ≡ o → after_class d o ≡ Ok e → Next e lines line
 class_stands d e lines line words None has none spelled read is = absurd cc
-class_stands d e lines line words (Some vs) has none spelled read is =
-    let class : Block = block.Class (plain_class vs.1.0) in
-    let p = passed (eqb vs.0 (length d.said.assets.classes)) (opened d class) e reason.Asset is in
-    let number : vs.0 ≡ length d.said.assets.classes = grind (arith, nat_tests, p.0) in
-    let t = values_take class_fields words vs read in
-    let text : line ≡ class_text vs.0 vs.1.0 = line_from_words line (codes "class" ∷ texts_of class_fields vs) (spelled ∙ ap (λ (ws : List (List ℕ)). codes "class" ∷ ws) t.0) in
+class_stands d e lines line words (Some x) has none spelled read is =
+    let class : Block = block.Class (plain_class x.1) in
+    let p = passed (eqb x.0 (length d.said.assets.classes)) (opened d class) e reason.Asset is in
+    let number : x.0 ≡ length d.said.assets.classes = grind (arith, nat_tests, p.0) in
+    let t = head_taken line words x spelled read in
     subst (λ (x : Draft). Next x lines line) p.1 (opens_block d lines line class has none (record {
-      back = vs.1.0;
-      counted = subst (λ (n : ℕ). AreIn class_fields (n, (vs.1.0, tt))) number t.1;
+      back = x.1;
+      counted = subst (λ (n : ℕ). HeadFits n x.1) number t.1;
       lines = [];
       is = refl;
       body = [];
       are = tt;
-      spelled = ap (λ (l : List ℕ). l ∷ []) (text ∙ ap (λ (n : ℕ). class_text n vs.1.0) number);
+      spelled = ap (λ (l : List ℕ). l ∷ []) (t.0 ∙ ap (λ (n : ℕ). class_text n x.1) number);
     }))
 
 font_stands : (d e : Draft) (lines : List (List ℕ)) (line : List ℕ) (words : List (List ℕ)) (o : Option (Values font_fields)) → HasItems 4 d lines → length d.said.lines ≡ 0 → words_of line ≡ codes "font" ∷ words → font_in words ≡ o → after_font d o ≡ Ok e → Next e lines line
@@ -317,13 +316,9 @@ early_stands d e lines line first words body has none spelled asset is =
 asset_stands : (d e : Draft) (lines : List (List ℕ)) (line first : List ℕ) (words : List (List ℕ)) → d.stage ≡ stage.Body → HasItems 4 d lines → words_of line ≡ first ∷ words → is_one_of asset_words first ≡ true → after_asset d first words ≡ Ok e → Next e lines line
 unfolding after_asset
 asset_stands d e lines line first words body has spelled asset is =
-    elim (chosen (bytes_eq first (codes "class") && is_later_class words) (Err reason.Later) (cond (eqb (length d.said.lines) 0) (after_early d first words) (Err reason.Late)) (Ok e) is) [
-      | inl later ↦ absurd (cc later.1)
-      | inr built ↦
-          elim (chosen (eqb (length d.said.lines) 0) (after_early d first words) (Err reason.Late) (Ok e) built.1) [
-            | inl early ↦ early_stands d e lines line first words body has (grind (arith, nat_tests, early.0)) spelled asset early.1
-            | inr late ↦ absurd (cc late.1)
-          ]
+    elim (chosen (eqb (length d.said.lines) 0) (after_early d first words) (Err reason.Late) (Ok e) is) [
+      | inl early ↦ early_stands d e lines line first words body has (grind (arith, nat_tests, early.0)) spelled asset early.1
+      | inr late ↦ absurd (cc late.1)
     ]
 
 other_stands : (d e : Draft) (lines : List (List ℕ)) (line : List ℕ) (words : List (List ℕ)) → d.stage ≡ stage.Body → HasItems 4 d lines → words_of line ≡ words → after_other d words ≡ Ok e → Next e lines line
@@ -423,11 +418,11 @@ early_keeps d e first words at is =
           ]
     ]
   where
-    class_keeps : (o : Option (Values class_fields)) → after_class d o ≡ Ok e → IsStage e.stage
+    class_keeps : (o : Option (ℕ × Option ℕ)) → after_class d o ≡ Ok e → IsStage e.stage
     class_keeps None is = absurd cc
-    class_keeps (Some vs) is =
-        let class : Block = block.Class (plain_class vs.1.0) in
-        to_stage (opened d class) e tt (passed (eqb vs.0 (length d.said.assets.classes)) (opened d class) e reason.Asset is).1
+    class_keeps (Some x) is =
+        let class : Block = block.Class (plain_class x.1) in
+        to_stage (opened d class) e tt (passed (eqb x.0 (length d.said.assets.classes)) (opened d class) e reason.Asset is).1
 
     font_keeps : (o : Option (Values font_fields)) → font_in words ≡ o → after_font d o ≡ Ok e → IsStage e.stage
     font_keeps None read is = absurd cc
@@ -455,13 +450,9 @@ other_keeps d e [] at is = absurd cc
 other_keeps d e (first ∷ words) at is =
     elim (chosen (is_one_of asset_words first) (after_asset d first words) (Err (call_reason first words)) (Ok e) is) [
       | inl asset ↦
-          elim (chosen (bytes_eq first (codes "class") && is_later_class words) (Err reason.Later) (cond (eqb (length d.said.lines) 0) (after_early d first words) (Err reason.Late)) (Ok e) asset.1) [
-            | inl later ↦ absurd (cc later.1)
-            | inr built ↦
-                elim (chosen (eqb (length d.said.lines) 0) (after_early d first words) (Err reason.Late) (Ok e) built.1) [
-                  | inl early ↦ early_keeps d e first words at early.1
-                  | inr late ↦ absurd (cc late.1)
-                ]
+          elim (chosen (eqb (length d.said.lines) 0) (after_early d first words) (Err reason.Late) (Ok e) asset.1) [
+            | inl early ↦ early_keeps d e first words at early.1
+            | inr late ↦ absurd (cc late.1)
           ]
       | inr none ↦ absurd (cc none.1)
     ]
@@ -492,21 +483,26 @@ draft_kept d e line is after = by_took (took d e line after).1 where
   by_took (comment skipped takes same) = to_stage d e is same
   by_took (other words) = words_keep d.stage d e line refl is words
 
+open_there : (d : Draft) (c : Block) (Opens : Before → List (List ℕ) → Type 0) (lines : List (List ℕ)) → (has : HasBlock d c lines) → Opens (before_at 4 d) has.part → AreOpen Opens lines
+open_there d c Opens lines has opens = record {
+  front = has.front;
+  before = before_at 4 d;
+  whole = has.has;
+  early = record { header = refl; none = has.none };
+  block = has.part;
+  opens = opens;
+  spelled = has.parts;
+}
+
 place_stands : (s : Stage) (d : Draft) (lines : List (List ℕ)) → StandsIn s d lines → StandsAt lines (place_at s d)
 place_stands stage.Title d lines has = has
 place_stands stage.Screen d lines has = has
 place_stands stage.Buffers d lines has = has
 place_stands stage.Desktop d lines has = has
 place_stands stage.Body d lines has = has
-place_stands (stage.Block c) d lines has = record {
-  front = has.front;
-  before = before_at 4 d;
-  whole = has.has;
-  early = record { header = refl; none = has.none };
-  block = has.part;
-  opens = says_opens (before_at 4 d) c has.part has.says;
-  spelled = has.parts;
-}
+place_stands (stage.Block (block.Class class)) d lines has = open_there d (block.Class class) OpensClass lines has (class_opens (before_at 4 d) class has.part has.says)
+place_stands (stage.Block (block.Font font)) d lines has = open_there d (block.Font font) OpensDrawing lines has (inl (font_opens (before_at 4 d) font has.part has.says))
+place_stands (stage.Block (block.Bitmap bitmap)) d lines has = open_there d (block.Bitmap bitmap) OpensDrawing lines has (inr (bitmap_opens (before_at 4 d) bitmap has.part has.says))
 
 pub front_read : (d : Draft) (lines : List (List ℕ)) → run after_line empty_draft lines ≡ Ok d → IsFront lines (place_of d)
 front_read d lines is = (printable_read empty_draft d lines is, place_stands d.stage d lines (read_stands d lines is))

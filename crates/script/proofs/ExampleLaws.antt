@@ -44,9 +44,9 @@ dotted_lines = record {
 }
 
 abbrev first_assets : Assets
-first_assets = record small_assets { classes = plain_class 0 ∷ [] }
+first_assets = record small_assets { classes = plain_class (Some 0) ∷ [] }
 
-greeting_is : AreClassLines first_assets 255 (greeting ∷ []) (codes "" ∷ codes "text 0 0 0 0000FF 0" ∷ [])
+greeting_is : AreClassLines first_assets (Some 255) (greeting ∷ []) (codes "" ∷ codes "text 0 0 0 0000FF 0" ∷ [])
 unfolding digits hex_colour name_of_class_word
 greeting_is = (
   codes "" ∷ [],
@@ -125,7 +125,7 @@ small_is = (
                 calls_text,
                 refl,
                 tt,
-                record { early = record { header = refl; none = refl }; counted = ((omega arith, omega arith), (omega arith, tt)); body = codes "" ∷ codes "text 0 0 0 0000FF 0" ∷ []; are = greeting_is; spelled = refl },
+                record { early = record { header = refl; none = refl }; counted = (omega arith, omega arith, omega arith); body = codes "" ∷ codes "text 0 0 0 0000FF 0" ∷ []; are = greeting_is; spelled = refl },
                 (
                   [],
                   codes "1 create 1 0 0 0 1 1" ∷ [],

@@ -20,7 +20,7 @@ use Rattle.bitmap.specs.declared.place.Place.TheVariants as bitmap_place
 use Rattle.bitmap.specs.Faults.{why_at}
 use Rattle.bitmap.specs.Reading as bitmaps
 use Rattle.bitmap.proofs.CallerLemmas as bitmap_laws
-use Rattle.spelling.proofs.CallerLemmas.{on_ok, named, values_again, line_values_again, words_with, no_natural, colour_no_dash, run_on}
+use Rattle.spelling.proofs.CallerLemmas.{on_ok, named, values_again, line_values_again, words_with, no_natural, run_on}
 use Rattle.class_lines.specs.declared.line.ClassLine.{ClassLine}
 use Rattle.class_lines.specs.Words.{text_of_class_line, ClassLineFits}
 use Rattle.class_lines.proofs.CallerLemmas.{class_line_spelled, no_comment, no_end}
@@ -32,15 +32,16 @@ use Rattle.script.specs.declared.draft.Block.TheVariants as kind
 use Rattle.script.specs.declared.draft.Stage.{Stage}
 use Rattle.script.specs.declared.draft.Stage.TheVariants as stage
 use Rattle.script.specs.declared.fault.Reason.{Reason}
-use Rattle.script.specs.Fields.{screen_in, desktop_in, class_in, font_in, bitmap_in}
-use Rattle.script.specs.Later.{is_one_of, asset_words, is_later_class}
-use Rattle.script.specs.Scripts.{screen_fields, desktop_fields, class_fields, class_text, string_text, with_string, Item, Title, Screen, Buffers, Desktop, StringOf, ClassOf, CallOf, Before, IsFontBlock, IsBitmapBlock, nothing, after, Spells, class_of, IsClassLine, AreClassLines, plain_class, class_with, may_have, font_fields, font_text, bitmap_fields, bitmap_text, FontOf, BitmapOf, with_font, with_bitmap, may_do}
+use Rattle.script.specs.Fields.{screen_in, desktop_in, font_in, bitmap_in}
+use Rattle.script.specs.Later.{is_one_of, asset_words}
+use Rattle.script.specs.Scripts.{screen_fields, desktop_fields, class_text, string_text, with_string, Item, Title, Screen, Buffers, Desktop, StringOf, ClassOf, CallOf, Before, IsFontBlock, IsBitmapBlock, nothing, after, Spells, class_of, IsClassLine, AreClassLines, plain_class, class_with, may_have, font_fields, font_text, bitmap_fields, bitmap_text, FontOf, BitmapOf, with_font, with_bitmap, may_do, HeadFits, text_of_back}
 use Rattle.paint_ops.specs.Kinds.{Class}
 use Rattle.paint_ops.specs.Texts.{IsText}
 use Rattle.std.specs.Fmt.{decimal}
-use Rattle.script.specs.Faults.{Place, Between, AreOpen, IsFront, InBlock, OpensBlock}
+use Rattle.script.specs.Faults.{Place, Between, AreOpen, IsFront, OpensClass, OpensDrawing, InClass, InDrawing}
 use Rattle.script.specs.Reading.{Draft, empty_draft, after_title, after_screen, after_buffers, after_desktop, after_block, after_class, after_string, after_asset, after_other, after_call, after_body, after_words, after_line, with_screen, with_colour, opened, before_at, place_at, place_of, block_after, closed, after_font, after_bitmap, takes_comments, with_call}
 use Rattle.script.proofs.StringLaws.{string_words, string_again}
+use Rattle.script.proofs.ClassHeadLaws.{head_words, head_again}
 use Rattle.script.proofs.ItemLaws.{opens, uncommented}
 
 -- ---- lines that are taken
@@ -95,14 +96,7 @@ desktop_taken : (d : Draft) (c : ℕ) → AreIn desktop_fields (c, tt) → after
 unfolding after_desktop desktop_in
 desktop_taken d c are = rw (line_values_again (codes "desktop") desktop_fields (c, tt) refl refl are) refl
 
-class_read : (n back : ℕ) → AreIn class_fields (n, (back, tt)) → class_in (texts_of class_fields (n, (back, tt))) ≡ Some (n, (back, tt))
-unfolding class_in
-class_read n back are = values_again class_fields (texts_of class_fields (n, (back, tt))) (n, (back, tt)) refl refl are
-
-class_is_built : (n back : ℕ) → is_later_class (texts_of class_fields (n, (back, tt))) ≡ false
-class_is_built n back = colour_no_dash back
-
-numbered_class : (d : Draft) (back : ℕ) → after_class d (Some (length d.said.assets.classes, (back, tt))) ≡ Ok (opened d (kind.Class (plain_class back)))
+numbered_class : (d : Draft) (back : Option ℕ) → after_class d (Some (length d.said.assets.classes, back)) ≡ Ok (opened d (kind.Class (plain_class back)))
 numbered_class d back =
     let same : eqb (length d.said.assets.classes) (length d.said.assets.classes) ≡ true = grind (arith, nat_tests) in
     rw same refl
@@ -112,11 +106,11 @@ numbered_string d text =
     let same : eqb (length d.said.assets.strings) (length d.said.assets.strings) ≡ true = grind (arith, nat_tests) in
     rw same refl
 
-class_words : (d : Draft) (back : ℕ) → AreIn class_fields (length d.said.assets.classes, (back, tt)) → length d.said.lines ≡ 0 → after_asset d (codes "class") (texts_of class_fields (length d.said.assets.classes, (back, tt))) ≡ Ok (opened d (kind.Class (plain_class back)))
+class_words : (d : Draft) (back : Option ℕ) → HeadFits (length d.said.assets.classes) back → length d.said.lines ≡ 0 → after_asset d (codes "class") (decimal (length d.said.assets.classes) ∷ text_of_back back ∷ []) ≡ Ok (opened d (kind.Class (plain_class back)))
 unfolding after_asset
 class_words d back are early =
     let none : eqb (length d.said.lines) 0 ≡ true = grind (arith, nat_tests) in
-    rw (class_is_built (length d.said.assets.classes) back, none, class_read (length d.said.assets.classes) back are) (numbered_class d back)
+    rw (none, head_again (length d.said.assets.classes) back are) (numbered_class d back)
 
 numbered_font : (d : Draft) (height : ℕ) → after_font d (Some (length d.said.assets.fonts, (height, tt))) ≡ Ok (opened d (kind.Font (fonts.start height)))
 numbered_font d height =
@@ -172,10 +166,10 @@ bitmap_is_asset : is_one_of asset_words (codes "bitmap") ≡ true
 unfolding is_one_of asset_words
 bitmap_is_asset = refl
 
-class_taken : (d : Draft) (back : ℕ) → AreIn class_fields (length d.said.assets.classes, (back, tt)) → length d.said.lines ≡ 0 → after_body d (class_text (length d.said.assets.classes) back) ≡ Ok (opened d (kind.Class (plain_class back)))
+class_taken : (d : Draft) (back : Option ℕ) → HeadFits (length d.said.assets.classes) back → length d.said.lines ≡ 0 → after_body d (class_text (length d.said.assets.classes) back) ≡ Ok (opened d (kind.Class (plain_class back)))
 class_taken d back are early =
     let number : ℕ = length d.said.assets.classes in
-    asset_taken d (opened d (kind.Class (plain_class back))) (class_text number back) (codes "class") (texts_of class_fields (number, (back, tt))) (words_with (codes "class") class_fields (number, (back, tt)) refl refl are) (lit< tt) class_is_asset (class_words d back are early)
+    asset_taken d (opened d (kind.Class (plain_class back))) (class_text number back) (codes "class") (decimal number ∷ text_of_back back ∷ []) (head_words number back are) (lit< tt) class_is_asset (class_words d back are early)
 
 font_taken : (d : Draft) (height : ℕ) → AreIn font_fields (length d.said.assets.fonts, (height, tt)) → length d.said.lines ≡ 0 → after_body d (font_text (length d.said.assets.fonts) height) ≡ Ok (opened d (kind.Font (fonts.start height)))
 font_taken d height are early =
@@ -214,7 +208,9 @@ at_place stage.Screen d b e = at_header 1 stage.Screen d b e refl
 at_place stage.Buffers d b e = at_header 2 stage.Buffers d b e refl
 at_place stage.Desktop d b e = at_header 3 stage.Desktop d b e refl
 at_place stage.Body d b e = at_header 4 stage.Body d b e refl
-at_place (stage.Block c) d b e = absurd cc
+at_place (stage.Block (kind.Class class)) d b e = absurd cc
+at_place (stage.Block (kind.Font font)) d b e = absurd cc
+at_place (stage.Block (kind.Bitmap bitmap)) d b e = absurd cc
 
 -- ---- items
 
@@ -354,11 +350,11 @@ first_then d e f first body at shown printable taken goes = then_on d e first bo
 first_shown : (name : List ℕ) (fs : List Field) (vs : Values fs) → 0 < length name → 35 < get_or name 0 0 → is_comment (text_with name fs vs) ≡ false
 first_shown name fs vs some other = uncommented name (texts_of fs vs) some other
 
-class_opens : (d : Draft) (back : ℕ) (lines : List ClassLine) (body : List (List ℕ)) → d.stage ≡ stage.Body → AreIn class_fields (length d.said.assets.classes, (back, tt)) → length d.said.lines ≡ 0 → AreClassLines d.said.assets back lines body → ArePrintable (class_text (length d.said.assets.classes) back ∷ body)
+class_opens : (d : Draft) (back : Option ℕ) (lines : List ClassLine) (body : List (List ℕ)) → d.stage ≡ stage.Body → HeadFits (length d.said.assets.classes) back → length d.said.lines ≡ 0 → AreClassLines d.said.assets back lines body → ArePrintable (class_text (length d.said.assets.classes) back ∷ body)
     → Reads d (class_text (length d.said.assets.classes) back ∷ body) (opened d (kind.Class (class_of back lines)))
 class_opens d back lines body at counted none are printable =
     let first : List ℕ = class_text (length d.said.assets.classes) back in
-    let shown = first_shown (codes "class") class_fields (length d.said.assets.classes, (back, tt)) (lit< tt) (lit< tt) in
+    let shown = uncommented (codes "class") (decimal (length d.said.assets.classes) ∷ text_of_back back ∷ []) (lit< tt) (lit< tt) in
     first_then d (opened d (kind.Class (plain_class back))) (opened d (kind.Class (class_of back lines))) first body at shown printable.0 (class_taken d back counted none) (body_goes lines d (plain_class back) body are printable.1)
 
 font_opens : (d : Draft) (height : ℕ) (y : fonts.Draft) (body : List (List ℕ)) → d.stage ≡ stage.Body → AreIn font_fields (length d.said.assets.fonts, (height, tt)) → length d.said.lines ≡ 0 → run fonts.line_step (fonts.start height) body ≡ Ok y → ArePrintable (font_text (length d.said.assets.fonts) height ∷ body)
@@ -377,7 +373,7 @@ bitmap_opens d width height y body at counted none read printable =
 
 -- ---- blocks to their last line
 
-class_goes : (d : Draft) (back : ℕ) (lines : List ClassLine) (body part : List (List ℕ)) → d.stage ≡ stage.Body → AreIn class_fields (length d.said.assets.classes, (back, tt)) → length d.said.lines ≡ 0 → AreClassLines d.said.assets back lines body → part ≡ class_text (length d.said.assets.classes) back ∷ body ++ codes "end" ∷ [] → ArePrintable part
+class_goes : (d : Draft) (back : Option ℕ) (lines : List ClassLine) (body part : List (List ℕ)) → d.stage ≡ stage.Body → HeadFits (length d.said.assets.classes) back → length d.said.lines ≡ 0 → AreClassLines d.said.assets back lines body → part ≡ class_text (length d.said.assets.classes) back ∷ body ++ codes "end" ∷ [] → ArePrintable part
     → Reads d part (closed d (kind.Class (class_of back lines)))
 class_goes d back lines body part at counted none are is printable =
     let class : Class = class_of back lines in
@@ -433,7 +429,9 @@ item_goes (CallOf l) d n block at spells printable =
 
 -- comments stand between items
 between_takes : (s : Stage) (d : Draft) (b : Before) → place_at s d ≡ Between b → takes_comments s ≡ true
-between_takes (stage.Block c) d b place = absurd cc
+between_takes (stage.Block (kind.Class class)) d b place = absurd cc
+between_takes (stage.Block (kind.Font font)) d b place = absurd cc
+between_takes (stage.Block (kind.Bitmap bitmap)) d b place = absurd cc
 between_takes stage.Title d b place = refl
 between_takes stage.Screen d b place = refl
 between_takes stage.Buffers d b place = refl
@@ -475,23 +473,29 @@ bitmap_unfinished y open_ =
       | inr other ↦ other
     ]
 
--- the first lines of a block are read
-opens_read : (d : Draft) (part : List (List ℕ)) → d.stage ≡ stage.Body → length d.said.lines ≡ 0 → OpensBlock (before_at 4 d) part → ArePrintable part → (c : Block) × Reads d part (opened d c)
-opens_read d part at none (inl class) printable =
-    (kind.Class (class_of class.back class.lines), ap (run after_line d) class.spelled ∙ class_opens d class.back class.lines class.body at class.counted none class.are (subst ArePrintable class.spelled printable))
-opens_read d part at none (inr (inl font)) printable =
+-- the first lines of a block are read, and lead to the place in it
+abbrev IsReadTo : Draft → List (List ℕ) → Place → Type 0
+IsReadTo d part place = (c : Block) × Reads d part (opened d c) × (place_at (stage.Block c) (opened d c) ≡ place)
+
+class_read : (d : Draft) (part : List (List ℕ)) → d.stage ≡ stage.Body → length d.said.lines ≡ 0 → OpensClass (before_at 4 d) part → ArePrintable part → IsReadTo d part InClass
+class_read d part at none class printable =
+    (kind.Class (class_of class.back class.lines), ap (run after_line d) class.spelled ∙ class_opens d class.back class.lines class.body at class.counted none class.are (subst ArePrintable class.spelled printable), refl)
+
+drawing_read : (d : Draft) (part : List (List ℕ)) → d.stage ≡ stage.Body → length d.said.lines ≡ 0 → OpensDrawing (before_at 4 d) part → ArePrintable part → IsReadTo d part InDrawing
+drawing_read d part at none (inl font) printable =
     let reading = font_laws.reading font.height font.counted.1.0.0 font.counted.1.0.1 in
     let r = reading.complete font.body font.place font.are in
     let unfinished = font_unfinished r.0 (λ after. font.open_ (sym r.2 ∙ after)) in
-    (kind.Font r.0, ap (run after_line d) font.spelled ∙ font_opens d font.height r.0 font.body at font.counted none r.1 (subst ArePrintable font.spelled printable) ∙ ap (λ (b : Bool). fine (with_state d b (kind.Font r.0))) unfinished)
-opens_read d part at none (inr (inr bitmap)) printable =
+    (kind.Font r.0, ap (run after_line d) font.spelled ∙ font_opens d font.height r.0 font.body at font.counted none r.1 (subst ArePrintable font.spelled printable) ∙ ap (λ (b : Bool). fine (with_state d b (kind.Font r.0))) unfinished, refl)
+drawing_read d part at none (inr bitmap) printable =
     let reading = bitmap_laws.reading bitmap.width bitmap.height in
     let r = reading.complete bitmap.body bitmap.place bitmap.are in
     let unfinished = bitmap_unfinished r.0 (λ after. bitmap.open_ (sym r.2 ∙ after)) in
-    (kind.Bitmap r.0, ap (run after_line d) bitmap.spelled ∙ bitmap_opens d bitmap.width bitmap.height r.0 bitmap.body at bitmap.counted none r.1 (subst ArePrintable bitmap.spelled printable) ∙ ap (λ (b : Bool). fine (with_state d b (kind.Bitmap r.0))) unfinished)
+    (kind.Bitmap r.0, ap (run after_line d) bitmap.spelled ∙ bitmap_opens d bitmap.width bitmap.height r.0 bitmap.body at bitmap.counted none r.1 (subst ArePrintable bitmap.spelled printable) ∙ ap (λ (b : Bool). fine (with_state d b (kind.Bitmap r.0))) unfinished, refl)
 
-open_read : (lines : List (List ℕ)) → AreOpen lines → ArePrintable lines → IsReadAs lines InBlock
-open_read lines open_ printable =
+open_read : (Opens : Before → List (List ℕ) → Type 0) (in_it : Place) → ((d : Draft) (part : List (List ℕ)) → d.stage ≡ stage.Body → length d.said.lines ≡ 0 → Opens (before_at 4 d) part → ArePrintable part → IsReadTo d part in_it)
+    → (lines : List (List ℕ)) → AreOpen Opens lines → ArePrintable lines → IsReadAs lines in_it
+open_read Opens in_it reads lines open_ printable =
     let b : Before = open_.before in
     let parts = printable_parts open_.front open_.block (subst ArePrintable open_.spelled printable) in
     let r = whole_read open_.front open_.whole.items open_.whole.spelled parts.0 in
@@ -500,11 +504,12 @@ open_read lines open_ printable =
     let at = at_place d.stage d b place in
     let same : b ≡ before_at 4 d = at.0 ∙ ap (λ (n : ℕ). before_at n d) open_.early.header in
     let none : length d.said.lines ≡ 0 = subst (λ (x : Before). length x.said.lines ≡ 0) same open_.early.none in
-    let goes = opens_read d open_.block (at.1 ∙ ap stage_of open_.early.header) none (subst (λ (x : Before). OpensBlock x open_.block) same open_.opens) parts.1 in
-    (opened d goes.0, ap (run after_line empty_draft) open_.spelled ∙ run_on after_line empty_draft d open_.front open_.block r.1 ∙ goes.1, refl)
+    let goes = reads d open_.block (at.1 ∙ ap stage_of open_.early.header) none (subst (λ (x : Before). Opens x open_.block) same open_.opens) parts.1 in
+    (opened d goes.0, ap (run after_line empty_draft) open_.spelled ∙ run_on after_line empty_draft d open_.front open_.block r.1 ∙ goes.1, goes.2)
 
 pub front_reads : (lines : List (List ℕ)) (place : Place) → IsFront lines place → IsReadAs lines place
 front_reads lines (Between b) front =
     let r = whole_read lines front.1.items front.1.spelled front.0 in
     (r.0, r.1, r.2 ∙ ap Between front.1.before)
-front_reads lines InBlock front = open_read lines front.1 front.0
+front_reads lines InClass front = open_read OpensClass InClass class_read lines front.1 front.0
+front_reads lines InDrawing front = open_read OpensDrawing InDrawing drawing_read lines front.1 front.0

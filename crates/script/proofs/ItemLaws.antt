@@ -1,5 +1,5 @@
 -- Items are apart: each begins with a line that is no comment, by which it is known, and ends where its lines say.
-use Rattle.std.proofs.Common.{◌≡◌, ℕ, ◌<◌, ◌≤◌, true, false, List, [], ◌∷◌, ◌++◌, length, get_or, None, refl, sym, ap, ◌∙◌, arith, lit<, append_assoc, subst}
+use Rattle.std.proofs.Common.{◌≡◌, ℕ, ◌<◌, ◌≤◌, true, false, List, [], ◌∷◌, ◌++◌, length, get_or, Option, None, refl, sym, ap, ◌∙◌, arith, lit<, append_assoc, subst}
 use Rattle.std.specs.Prelude.{bytes_eq, codes, is_some, if◌then◌else◌}
 use Rattle.std.specs.Fmt.{decimal}
 use Rattle.std.proofs.lemmas.Bool.Decides.{nat_tests}
@@ -23,8 +23,9 @@ use Rattle.calls.specs.declared.line.Line.{Line}
 use Rattle.calls.specs.declared.line.Line.TheVariants.{Task}
 use Rattle.calls.specs.Words.{text_of_line, words_of_act, LineFits}
 use Rattle.calls.proofs.CallerLemmas.{line_spelled, line_words_whole}
-use Rattle.script.specs.Scripts.{screen_fields, desktop_fields, class_fields, class_text, string_text, font_fields, bitmap_fields, IsFontBlock, IsBitmapBlock, Item, Title, Screen, Buffers, Desktop, FontOf, BitmapOf, StringOf, ClassOf, CallOf, Before, nothing, after, IsStringBlock, AreClassLines, IsClassBlock, Spells, AreItemsOf, Script, script_for, listing_of, IsScript}
+use Rattle.script.specs.Scripts.{screen_fields, desktop_fields, class_text, string_text, font_fields, bitmap_fields, IsFontBlock, IsBitmapBlock, Item, Title, Screen, Buffers, Desktop, FontOf, BitmapOf, StringOf, ClassOf, CallOf, Before, nothing, after, IsStringBlock, AreClassLines, IsClassBlock, Spells, AreItemsOf, Script, script_for, listing_of, IsScript, text_of_back}
 use Rattle.script.proofs.StringLaws.{string_words, string_same}
+use Rattle.script.proofs.ClassHeadLaws.{head_words, head_same}
 use Rattle.script.proofs.BodyLaws.{one_line, one_body, without_end}
 
 -- ---- one text has one meaning
@@ -87,6 +88,12 @@ opens_string b text block is =
     let known : tag_of_word (codes "string") ≡ 6 = rw (name_tag (codes "string") (lit< tt)) refl in
     record { line = string_text number text; more = []; is = is.spelled; known = ap tag_of_words (string_words number text is.counted) ∙ known; shown = uncommented (codes "string") (decimal number ∷ text ∷ []) (lit< tt) (lit< tt) }
 
+opens_class : (b : Before) (back : Option ℕ) (lines : List ClassLine) (block : List (List ℕ)) → IsClassBlock b back lines block → Opens (ClassOf back lines) block
+opens_class b back lines block is =
+    let number : ℕ = length b.said.assets.classes in
+    let known : tag_of_word (codes "class") ≡ 4 = rw (name_tag (codes "class") (lit< tt)) refl in
+    record { line = class_text number back; more = is.body ++ codes "end" ∷ []; is = is.spelled; known = ap tag_of_words (head_words number back is.counted) ∙ known; shown = uncommented (codes "class") (decimal number ∷ text_of_back back ∷ []) (lit< tt) (lit< tt) }
+
 opens_call : (l : Line) (block : List (List ℕ)) → LineFits l → block ≡ text_of_line l ∷ [] → Opens (CallOf l) block
 opens_call (Task task a) block fits is =
     let below : task ≤ 16 = fits.1 in
@@ -102,7 +109,7 @@ opens b (Screen w h) block is = opens_with (Screen w h) block [] (codes "screen"
 opens b Buffers block is = record { line = codes "buffers 1"; more = []; is = is.1; known = rw (name_tag (codes "buffers") (lit< tt)) refl; shown = refl }
 opens b (Desktop colour) block is = opens_with (Desktop colour) block [] (codes "desktop") desktop_fields (colour, tt) refl refl is.1 (lit< tt) (lit< tt) (rw (name_tag (codes "desktop") (lit< tt)) refl) is.0.1
 opens b (StringOf text) block is = opens_string b text block is
-opens b (ClassOf back lines) block is = opens_with (ClassOf back lines) block (is.body ++ codes "end" ∷ []) (codes "class") class_fields (length b.said.assets.classes, (back, tt)) refl refl is.counted (lit< tt) (lit< tt) (rw (name_tag (codes "class") (lit< tt)) refl) is.spelled
+opens b (ClassOf back lines) block is = opens_class b back lines block is
 opens b (FontOf font) block is = opens_with (FontOf font) block (font_lines font) (codes "font") font_fields (length b.said.assets.fonts, (font.height, tt)) refl refl is.counted (lit< tt) (lit< tt) (rw (name_tag (codes "font") (lit< tt)) refl) is.spelled
 opens b (BitmapOf bitmap) block is =
     opens_with (BitmapOf bitmap) block is.body (codes "bitmap") bitmap_fields (length b.said.assets.bitmaps, (bitmap.width, (bitmap.height, tt))) refl refl is.counted (lit< tt) (lit< tt) (rw (name_tag (codes "bitmap") (lit< tt)) refl) is.spelled
@@ -119,16 +126,15 @@ to_end xs bs ys cs body other t u clear also is are e =
     let blocks = same_block (codes "end") body other ys cs clear also (sym (append_assoc body (codes "end" ∷ []) ys) ∙ rest ∙ append_assoc other (codes "end" ∷ []) cs) in
     (first, blocks.0, blocks.1)
 
-classes_apart : (b : Before) (back other : ℕ) (ls ms : List ClassLine) (xs bs ys cs : List (List ℕ)) → IsClassBlock b back ls xs → IsClassBlock b other ms bs → xs ++ ys ≡ bs ++ cs → (ClassOf back ls ≡ ClassOf other ms) × (ys ≡ cs)
+classes_apart : (b : Before) (back other : Option ℕ) (ls ms : List ClassLine) (xs bs ys cs : List (List ℕ)) → IsClassBlock b back ls xs → IsClassBlock b other ms bs → xs ++ ys ≡ bs ++ cs → (ClassOf back ls ≡ ClassOf other ms) × (ys ≡ cs)
 classes_apart b back other ls ms xs bs ys cs is also e =
     let number : ℕ = length b.said.assets.classes in
     let assets : Assets = b.said.assets in
     let parts = to_end xs bs ys cs is.body also.body (class_text number back) (class_text number other) (without_end assets back ls is.body is.are) (without_end assets other ms also.body also.are) is.spelled also.spelled e in
-    let head = text_same (codes "class") class_fields (number, (back, tt)) (number, (other, tt)) refl refl is.counted also.counted parts.0 in
-    let colour : back ≡ other = ap (λ (vs : Values class_fields). vs.1.0) head in
-    let there : AreClassLines assets back ms is.body = subst (AreClassLines assets back ms) (sym parts.1) (subst (λ (c : ℕ). AreClassLines assets c ms also.body) (sym colour) also.are) in
+    let colour : back ≡ other = head_same number back other is.counted also.counted parts.0 in
+    let there : AreClassLines assets back ms is.body = subst (AreClassLines assets back ms) (sym parts.1) (subst (λ (c : Option ℕ). AreClassLines assets c ms also.body) (sym colour) also.are) in
     let lines : ls ≡ ms = one_body assets back ls ms is.body is.are there in
-    (ap (λ (c : ℕ). ClassOf c ls) colour ∙ ap (ClassOf other) lines, parts.2)
+    (ap (λ (c : Option ℕ). ClassOf c ls) colour ∙ ap (ClassOf other) lines, parts.2)
 
 -- blocks that begin with the same line
 heads_and_rest : (xs bs ys cs body other : List (List ℕ)) (t u : List ℕ) → xs ≡ t ∷ body → bs ≡ u ∷ other → xs ++ ys ≡ bs ++ cs → (t ≡ u) × (body ++ ys ≡ other ++ cs)

@@ -1,5 +1,6 @@
 pub mod CallerLemmas
 mod StringLaws
+mod ClassHeadLaws
 mod AssetLemmas
 mod BodyLaws
 mod BlockLaws

@@ -16,6 +16,7 @@ use Rattle.calls.specs.declared.line.Line.{Line}
 use Rattle.calls.specs.declared.line.Line.TheVariants.{Task}
 use Rattle.calls.specs.Lines.{FitsItsTask}
 use Rattle.calls.specs.Words.{LineFits}
+use Rattle.script.specs.declared.draft.Block.TheVariants as block
 use Rattle.script.specs.declared.draft.Stage.{Stage}
 use Rattle.script.specs.declared.draft.Stage.TheVariants as stage
 use Rattle.script.specs.declared.fault.Reason.{Reason}
@@ -87,13 +88,13 @@ item_good Buffers b block is good = record {
 }
 item_good (Desktop c) b block is good =
     let none = good.early (omega (arith, is.0.0)) in
-    let count = length-append b.said.assets.classes (plain_class c ∷ []) in
+    let count = length-append b.said.assets.classes (plain_class (Some c) ∷ []) in
     record {
       wide = λ h. good.wide (omega (arith, is.0.0));
       high = λ h. good.high (omega (arith, is.0.0));
       early = λ h. absurd (omega arith);
       some = λ h. omega arith;
-      assets = class_more b.said.assets (plain_class c) good.assets (omega arith) (class_sound b.said.assets c [] [] tt);
+      assets = class_more b.said.assets (plain_class (Some c)) good.assets (omega arith) (class_sound b.said.assets (Some c) [] [] tt);
       few_lines = good.few_lines;
       lines = good.lines;
     }
@@ -125,7 +126,7 @@ item_good (BitmapOf bitmap) b block is good = record {
   lines = good.lines;
 }
 item_good (ClassOf back lines) b block is good =
-    let below = is.counted.0.1 in
+    let below = is.counted.1 in
     let count = length-append b.said.assets.classes (class_of back lines ∷ []) in
     record {
       wide = good.wide;
@@ -201,7 +202,9 @@ may_end stage.Body d xs stands none =
       | inl free ↦ (stands, free.0)
       | inr held ↦ absurd (cc (held.1))
     ]
-may_end (stage.Block c) d xs stands none = absurd cc
+may_end (stage.Block (block.Class class)) d xs stands none = absurd cc
+may_end (stage.Block (block.Font font)) d xs stands none = absurd cc
+may_end (stage.Block (block.Bitmap bitmap)) d xs stands none = absurd cc
 
 script_of : (file : List ℕ) (d : Draft) → length file ≤ 100663296 → run after_line empty_draft (lines_of file) ≡ Ok d → why_cut (place_of d) ≡ None → IsScript file (script_for d.said)
 script_of file d short read none =

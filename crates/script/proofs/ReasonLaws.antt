@@ -1,16 +1,15 @@
 -- Why a draft doesn't take a line: the first reason that may be held against it.
-use Rattle.std.proofs.Common.{◌≡◌, Result, ℕ, ◌<◌, ◌≤◌, Bool, true, false, cond, ◌&&◌, ◌||◌, eqb, ltb, List, [], ◌∷◌, length, get_or, Option, Some, None, Ok, Err, refl, sym, ap, subst, ◌∙◌, inl, inr, arith, lit<}
-use Rattle.std.specs.Prelude.{is_some, bytes_eq, codes}
+use Rattle.std.proofs.Common.{◌≡◌, Result, ℕ, ◌<◌, ◌≤◌, Bool, true, false, cond, ◌&&◌, eqb, ltb, List, [], ◌∷◌, length, get_or, Option, Some, None, Ok, Err, refl, sym, ap, subst, ◌∙◌, inl, inr, arith, lit<}
+use Rattle.std.specs.Prelude.{bytes_eq, codes}
 use Rattle.std.specs.Fmt.{decimal, digits}
-use Rattle.std.proofs.Math.Bool.{or-false}
-use Rattle.std.proofs.lemmas.Bool.{cases_Bool, and_parts}
+use Rattle.std.proofs.lemmas.Bool.{cases_Bool}
 use Rattle.std.proofs.lemmas.Bool.Decides.{nat_tests}
 use Rattle.std.proofs.lemmas.Option.{none-some, same_Some}
 use Rattle.spelling.specs.Parts.{is_printable}
 use Rattle.spelling.specs.Words.{words_of, natural_in}
 use Rattle.spelling.specs.Fields.{Values}
 use Rattle.spelling.specs.Items.{is_comment}
-use Rattle.spelling.proofs.CallerLemmas.{chosen, named, same_name, no_natural_in, natural_in_again, one_first}
+use Rattle.spelling.proofs.CallerLemmas.{chosen, named, no_natural_in, natural_in_again, one_first}
 use Rattle.calls.specs.declared.call.Call.{Call}
 use Rattle.calls.specs.declared.call.Call.TheVariants as call
 use Rattle.calls.specs.declared.line.Act.{Act}
@@ -28,12 +27,12 @@ use Rattle.script.specs.declared.draft.Stage.TheVariants as stage
 use Rattle.script.specs.declared.fault.Reason.{Reason}
 use Rattle.script.specs.declared.fault.Reason.TheVariants as reason
 use Rattle.script.specs.Fields.{class_in, font_in, bitmap_in, string_in}
-use Rattle.script.specs.Later.{is_one_of, begins_with_one_of, asset_words, later_words, later_calls, is_later_class, is_later_call}
-use Rattle.script.specs.Scripts.{Before, class_fields, font_fields, bitmap_fields, plain_class, with_string, may_do}
-use Rattle.script.specs.Faults.{Place, Between, InBlock, is_later, is_later_in_header, is_later_elsewhere, IsCallLine, IsBarred, opens_asset, Holds, rank, Why}
-use Rattle.script.specs.Reading.{Draft, after_value, after_title, after_screen, after_buffers, after_desktop, after_block, after_class, after_string, after_early, after_asset, after_other, after_call, after_body, after_words, after_line, with_screen, with_colour, after_font, after_bitmap, gone_on, block_after, takes_comments, opened, before_at, place_at, place_of, header_reason, call_reason, closed, with_call}
+use Rattle.script.specs.Later.{is_one_of, begins_with_one_of, asset_words, later_words, later_calls, is_later_call}
+use Rattle.script.specs.Scripts.{Before, font_fields, bitmap_fields, plain_class, with_string, may_do}
+use Rattle.script.specs.Faults.{Place, Between, is_later, is_later_in_header, is_later_elsewhere, IsCallLine, IsBarred, opens_asset, Holds, rank, Why, InClass, InDrawing}
+use Rattle.script.specs.Reading.{Draft, after_value, after_title, after_screen, after_buffers, after_desktop, after_block, after_class, after_string, after_early, after_asset, after_other, after_call, after_body, after_words, after_line, with_screen, with_colour, after_font, after_bitmap, gone_on, block_after, takes_comments, opened, before_at, place_at, place_of, header_reason, call_reason, closed, with_call, drawing_reason}
 use Rattle.script.specs.Fields.{screen_in, desktop_in}
-use Rattle.script.proofs.BlockLaws.{block_reason}
+use Rattle.script.proofs.BlockLaws.{reason_in, block_reason}
 use Rattle.script.proofs.DraftLaws.{at_odds, asset_word}
 
 -- ---- forms that are built
@@ -62,26 +61,13 @@ act_is_built act.Lock = refl
 act_is_built act.Unlock = refl
 act_is_built (act.Call c) = call_is_built c
 
-class_is_no_task : natural_in 1 16 (codes "class") ≡ None
-class_is_no_task = no_natural_in 1 16 (codes "class") (lit< tt)
-
-not_class : (w : List ℕ) → bytes_eq (codes "class") w ≡ false → bytes_eq w (codes "class") ≡ false
-not_class w other =
-    elim (cases_Bool (bytes_eq w (codes "class"))) [
-      | inl same ↦ absurd (at_odds (bytes_eq (codes "class") w) (ap (bytes_eq (codes "class")) (named w (codes "class") same) ∙ same_name (codes "class")) other)
-      | inr differs ↦ differs
-    ]
-
-task_is_no_class : (task : ℕ) → 1 ≤ task → task ≤ 16 → bytes_eq (decimal task) (codes "class") ≡ false
-task_is_no_class task some few = not_class (decimal task) (not_named task (codes "class") some few (lit< tt))
-
 task_is_no_asset : (task : ℕ) → 1 ≤ task → task ≤ 16 → is_one_of asset_words (decimal task) ≡ false
 unfolding is_one_of asset_words
 task_is_no_asset task some few = rw (not_named task (codes "string") some few (lit< tt), not_named task (codes "class") some few (lit< tt), not_named task (codes "font") some few (lit< tt), not_named task (codes "bitmap") some few (lit< tt)) refl
 
 words_are_built : (l : Line) → LineFits l → is_later_elsewhere (line_words l) ≡ false
 words_are_built (Task task a) fits =
-    rw (task_is_built task fits.0 fits.1, task_is_no_class task fits.0 fits.1, natural_in_again 1 16 task fits.0 fits.1 (lit< tt), act_is_built a) refl
+    rw (task_is_built task fits.0 fits.1, natural_in_again 1 16 task fits.0 fits.1 (lit< tt), act_is_built a) refl
 
 words_open_no_asset : (l : Line) → LineFits l → begins_with_one_of asset_words (line_words l) ≡ false
 words_open_no_asset (Task task a) fits = task_is_no_asset task fits.0 fits.1
@@ -101,15 +87,9 @@ class_word_is_built : is_one_of later_words (codes "class") ≡ false
 unfolding is_one_of later_words
 class_word_is_built = refl
 
-class_later : (fields : List (List ℕ)) → is_later_class fields ≡ true → is_later_elsewhere (codes "class" ∷ fields) ≡ true
-class_later fields later = rw (class_word_is_built, later) refl
-
-class_built : (fields : List (List ℕ)) → is_later_class fields ≡ false → is_later_elsewhere (codes "class" ∷ fields) ≡ false
-class_built fields built = rw (class_word_is_built, built, class_is_no_task) refl
-
--- a word that no task, no class and no form that isn't built begins with
-word_built : (name : List ℕ) (fields : List (List ℕ)) → is_one_of later_words name ≡ false → bytes_eq name (codes "class") ≡ false → natural_in 1 16 name ≡ None → is_later_elsewhere (name ∷ fields) ≡ false
-word_built name fields built class task = rw (built, class, task) refl
+-- a word that no task and no form that isn't built begins with
+word_built : (name : List ℕ) (fields : List (List ℕ)) → is_one_of later_words name ≡ false → natural_in 1 16 name ≡ None → is_later_elsewhere (name ∷ fields) ≡ false
+word_built name fields built task = rw (built, task) refl
 
 string_word_is_built : is_one_of later_words (codes "string") ≡ false
 unfolding is_one_of later_words
@@ -123,22 +103,15 @@ bitmap_word_is_built : is_one_of later_words (codes "bitmap") ≡ false
 unfolding is_one_of later_words
 bitmap_word_is_built = refl
 
--- what an asset's words are
-asset_later : (first : List ℕ) (words : List (List ℕ)) → (bytes_eq first (codes "class") && is_later_class words) ≡ true → is_later_elsewhere (first ∷ words) ≡ true
-asset_later first words is =
-    let parts = and_parts (bytes_eq first (codes "class")) (is_later_class words) is in
-    ap (λ (w : List ℕ). is_later_elsewhere (w ∷ words)) (named first (codes "class") parts.0) ∙ class_later words parts.1
-
-asset_built : (first : List ℕ) (words : List (List ℕ)) → is_one_of asset_words first ≡ true → (bytes_eq first (codes "class") && is_later_class words) ≡ false → is_later_elsewhere (first ∷ words) ≡ false
-asset_built first words asset is =
-    let as_word : (name : List ℕ) → name ≡ first → is_later_elsewhere (name ∷ words) ≡ false → is_later_elsewhere (first ∷ words) ≡ false = λ name same built. ap (λ (w : List ℕ). is_later_elsewhere (w ∷ words)) (sym same) ∙ built in
+-- an asset's words are of a built form
+asset_built : (first : List ℕ) (words : List (List ℕ)) → is_one_of asset_words first ≡ true → is_later_elsewhere (first ∷ words) ≡ false
+asset_built first words asset =
+    let as_word : (name : List ℕ) → name ≡ first → is_one_of later_words name ≡ false → natural_in 1 16 name ≡ None → is_later_elsewhere (first ∷ words) ≡ false = λ name same built task. ap (λ (w : List ℕ). is_later_elsewhere (w ∷ words)) (sym same) ∙ word_built name words built task in
     elim (asset_word first asset) [
-      | inl string ↦ as_word (codes "string") string (word_built (codes "string") words string_word_is_built refl (no_natural_in 1 16 (codes "string") (lit< tt)))
-      | inr (inl class) ↦
-          let test : bytes_eq first (codes "class") ≡ true = ap (λ (w : List ℕ). bytes_eq w (codes "class")) (sym class) ∙ same_name (codes "class") in
-          as_word (codes "class") class (class_built words (sym (ap (λ (b : Bool). b && is_later_class words) test) ∙ is))
-      | inr (inr (inl font)) ↦ as_word (codes "font") font (word_built (codes "font") words font_word_is_built refl (no_natural_in 1 16 (codes "font") (lit< tt)))
-      | inr (inr (inr bitmap)) ↦ as_word (codes "bitmap") bitmap (word_built (codes "bitmap") words bitmap_word_is_built refl (no_natural_in 1 16 (codes "bitmap") (lit< tt)))
+      | inl string ↦ as_word (codes "string") string string_word_is_built (no_natural_in 1 16 (codes "string") (lit< tt))
+      | inr (inl class) ↦ as_word (codes "class") class class_word_is_built (no_natural_in 1 16 (codes "class") (lit< tt))
+      | inr (inr (inl font)) ↦ as_word (codes "font") font font_word_is_built (no_natural_in 1 16 (codes "font") (lit< tt))
+      | inr (inr (inr bitmap)) ↦ as_word (codes "bitmap") bitmap bitmap_word_is_built (no_natural_in 1 16 (codes "bitmap") (lit< tt))
     ]
 
 -- ---- the first reason at each place
@@ -148,8 +121,12 @@ ascii_first (Between b) line bad = (bad, earlier) where
   earlier : (e : Reason) → rank e < 1 → Holds (Between b) line e → ⊥
   earlier reason.TooLarge less h = h
   earlier e less h = absurd (omega arith)
-ascii_first InBlock line bad = (bad, earlier) where
-  earlier : (e : Reason) → rank e < 1 → Holds InBlock line e → ⊥
+ascii_first InClass line bad = (bad, earlier) where
+  earlier : (e : Reason) → rank e < 1 → Holds InClass line e → ⊥
+  earlier reason.TooLarge less h = h
+  earlier e less h = absurd (omega arith)
+ascii_first InDrawing line bad = (bad, earlier) where
+  earlier : (e : Reason) → rank e < 1 → Holds InDrawing line e → ⊥
   earlier reason.TooLarge less h = h
   earlier e less h = absurd (omega arith)
 
@@ -159,14 +136,28 @@ later_first (Between b) line printable later = (later, earlier) where
   earlier reason.TooLarge less h = h
   earlier reason.Ascii less h = at_odds (is_printable line) printable h
   earlier e less h = absurd (omega arith)
-later_first InBlock line printable later = absurd (cc later)
+later_first InClass line printable later = absurd (cc later)
+later_first InDrawing line printable later = (later, earlier) where
+  earlier : (e : Reason) → rank e < 2 → Holds InDrawing line e → ⊥
+  earlier reason.TooLarge less h = h
+  earlier reason.Ascii less h = at_odds (is_printable line) printable h
+  earlier e less h = absurd (omega arith)
 
-block_first : (line : List ℕ) → is_printable line ≡ true → Why InBlock line reason.Block
-block_first line printable = (tt, earlier) where
-  earlier : (e : Reason) → rank e < 4 → Holds InBlock line e → ⊥
+class_first : (line : List ℕ) → is_printable line ≡ true → Why InClass line reason.Block
+class_first line printable = (tt, earlier) where
+  earlier : (e : Reason) → rank e < 4 → Holds InClass line e → ⊥
   earlier reason.TooLarge less h = h
   earlier reason.Ascii less h = at_odds (is_printable line) printable h
   earlier reason.Later less h = absurd (cc h)
+  earlier reason.Header less h = h
+  earlier e less h = absurd (omega arith)
+
+drawing_first : (line : List ℕ) → is_printable line ≡ true → is_later_elsewhere (words_of line) ≡ false → Why InDrawing line reason.Block
+drawing_first line printable built = (tt, earlier) where
+  earlier : (e : Reason) → rank e < 4 → Holds InDrawing line e → ⊥
+  earlier reason.TooLarge less h = h
+  earlier reason.Ascii less h = at_odds (is_printable line) printable h
+  earlier reason.Later less h = at_odds (is_later_elsewhere (words_of line)) h built
   earlier reason.Header less h = h
   earlier e less h = absurd (omega arith)
 
@@ -254,6 +245,10 @@ by_test : (place : Place) (line : List ℕ) (b : Bool) (x y : Reason) → (b ≡
 by_test place line true x y is other = is refl
 by_test place line false x y is other = other refl
 
+drawing_why : (line : List ℕ) → is_printable line ≡ true → Why InDrawing line (drawing_reason line)
+drawing_why line printable =
+    by_test InDrawing line (is_later_elsewhere (words_of line)) reason.Later reason.Block (λ later. later_first InDrawing line printable later) (λ built. drawing_first line printable built)
+
 header_why : (b : Before) (line : List ℕ) → is_printable line ≡ true → b.header < 4 → Why (Between b) line (header_reason line)
 header_why b line printable header =
     let test : ltb b.header 4 ≡ true = grind (arith, nat_tests) in
@@ -284,15 +279,20 @@ gone_why : (d : Draft) (r : Result (Block × Bool) Reason) (why : Reason) → go
 gone_why d (Ok x) why is = absurd cc
 gone_why d (Err other) why is = cc
 
-block_why : (d : Draft) (c : Block) (line : List ℕ) (why : Reason) → is_printable line ≡ true → after_block c d line ≡ Err why → Why InBlock line why
+reason_first : (c : Block) (d : Draft) (line : List ℕ) → is_printable line ≡ true → Why (place_at (stage.Block c) d) line (reason_in c line)
+reason_first (block.Class class) d line printable = class_first line printable
+reason_first (block.Font font) d line printable = drawing_why line printable
+reason_first (block.Bitmap bitmap) d line printable = drawing_why line printable
+
+block_why : (d : Draft) (c : Block) (line : List ℕ) (why : Reason) → is_printable line ≡ true → after_block c d line ≡ Err why → Why (place_at (stage.Block c) d) line why
 block_why d c line why printable is =
-    subst (Why InBlock line) (block_reason d.said.assets c line why (gone_why d (block_after d.said.assets c line) why is)) (block_first line printable)
+    subst (Why (place_at (stage.Block c) d) line) (block_reason d.said.assets c line why (gone_why d (block_after d.said.assets c line) why is)) (reason_first c d line printable)
 
 -- ---- and after the header
 
-class_why : (d : Draft) (o : Option (Values class_fields)) (why : Reason) → after_class d o ≡ Err why → reason.Asset ≡ why
+class_why : (d : Draft) (o : Option (ℕ × Option ℕ)) (why : Reason) → after_class d o ≡ Err why → reason.Asset ≡ why
 class_why d None why is = cc
-class_why d (Some vs) why is = (refused (eqb vs.0 (length d.said.assets.classes)) (opened d (block.Class (plain_class vs.1.0))) reason.Asset why is).1
+class_why d (Some x) why is = (refused (eqb x.0 (length d.said.assets.classes)) (opened d (block.Class (plain_class x.1))) reason.Asset why is).1
 
 string_why : (d : Draft) (o : Option (ℕ × List ℕ)) (why : Reason) → after_string d o ≡ Err why → reason.Asset ≡ why
 string_why d None why is = cc
@@ -326,39 +326,15 @@ unfolding after_asset
 asset_why d line first words why printable spelled asset is =
     let b : Before = before_at 4 d in
     let opens : opens_asset line ≡ true = ap (begins_with_one_of asset_words) spelled ∙ asset in
-    elim (chosen (bytes_eq first (codes "class") && is_later_class words) (Err reason.Later) (cond (eqb (length d.said.lines) 0) (after_early d first words) (Err reason.Late)) (Err why) is) [
-      | inl later ↦
-          let same : reason.Later ≡ why = cc (later.1) in
-          subst (Why (Between b) line) same (later_first (Between b) line printable (ap is_later_elsewhere spelled ∙ asset_later first words later.0))
-      | inr built ↦
-          let form : is_later (Between b) line ≡ false = ap is_later_elsewhere spelled ∙ asset_built first words asset built.0 in
-          elim (chosen (eqb (length d.said.lines) 0) (after_early d first words) (Err reason.Late) (Err why) built.1) [
-            | inl early ↦ subst (Why (Between b) line) (early_why d first words why early.1) (asset_first b line printable form refl opens (grind (arith, nat_tests, early.0)))
-            | inr late ↦
-                let same : reason.Late ≡ why = cc (late.1) in
-                subst (Why (Between b) line) same (late_first b line printable form refl opens (grind (arith, nat_tests, late.0)))
-          ]
+    let form : is_later (Between b) line ≡ false = ap is_later_elsewhere spelled ∙ asset_built first words asset in
+    elim (chosen (eqb (length d.said.lines) 0) (after_early d first words) (Err reason.Late) (Err why) is) [
+      | inl early ↦ subst (Why (Between b) line) (early_why d first words why early.1) (asset_first b line printable form refl opens (grind (arith, nat_tests, early.0)))
+      | inr late ↦
+          let same : reason.Late ≡ why = cc (late.1) in
+          subst (Why (Between b) line) same (late_first b line printable form refl opens (grind (arith, nat_tests, late.0)))
     ]
 
 -- a line that is no call line, and opens no asset
-or_false_between : (a c : Bool) → ((a || false) || c) ≡ (a || c)
-or_false_between a c = ap (λ (x : Bool). x || c) (or-false a)
-
-class_is_asset : is_one_of asset_words (codes "class") ≡ true
-unfolding is_one_of asset_words
-class_is_asset = refl
-
-class_by_asset : (first : List ℕ) → is_one_of asset_words first ≡ false → bytes_eq first (codes "class") ≡ false
-class_by_asset first none =
-    elim (cases_Bool (bytes_eq first (codes "class"))) [
-      | inl class ↦ absurd (at_odds (is_one_of asset_words first) (ap (is_one_of asset_words) (named first (codes "class") class) ∙ class_is_asset) none)
-      | inr other ↦ other
-    ]
-
-call_reason_is : (first : List ℕ) (words : List (List ℕ)) → is_one_of asset_words first ≡ false → call_reason first words ≡ cond (is_later_elsewhere (first ∷ words)) reason.Later reason.Call
-call_reason_is first words closed =
-    rw (class_by_asset first closed) (ap (λ (b : Bool). cond b reason.Later reason.Call) (sym (or_false_between (is_one_of later_words first) (is_some (natural_in 1 16 first) && is_later_call words))))
-
 no_call : (line : List ℕ) → line_of (words_of line) ≡ None → IsCallLine line → ⊥
 no_call line none is = none-some is.0 (sym none ∙ line_spelled line is.0 is.2 is.1)
 
@@ -374,7 +350,7 @@ other_why d line (first ∷ words) why printable none spelled is =
       | inr closed ↦
           let same : call_reason first words ≡ why = cc (closed.1) in
           let form : is_later (Between b) line ≡ is_later_elsewhere (first ∷ words) = ap is_later_elsewhere spelled in
-          subst (Why (Between b) line) (sym (call_reason_is first words closed.0) ∙ same)
+          subst (Why (Between b) line) same
           (by_test (Between b) line (is_later_elsewhere (first ∷ words)) reason.Later reason.Call (λ later. later_first (Between b) line printable (form ∙ later)) (λ built. call_first b line printable (form ∙ built) refl (ap (begins_with_one_of asset_words) spelled ∙ closed.0) (no_call line none)))
     ]
 

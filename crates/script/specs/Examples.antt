@@ -35,7 +35,7 @@ greeter = record {
 
 abbrev pub small_assets : Assets
 small_assets = record {
-  classes = plain_class 0 ∷ greeter ∷ [];
+  classes = plain_class (Some 0) ∷ greeter ∷ [];
   fonts = single ∷ [];
   bitmaps = dotted ∷ [];
   strings = codes "A A" ∷ [];
@@ -60,7 +60,7 @@ small_listing = record {
 abbrev pub small_items : List Item
 small_items =
     Title ∷ Screen 2 1 ∷ Buffers ∷ Desktop 0 ∷ FontOf single ∷ BitmapOf dotted
-    ∷ StringOf (codes "A A") ∷ ClassOf 255 (greeting ∷ [])
+    ∷ StringOf (codes "A A") ∷ ClassOf (Some 255) (greeting ∷ [])
     ∷ CallOf (by_task_1 (Create 1 (pos 0) (pos 0) 0 1 1))
     ∷ CallOf (by_task_1 (Create 1 (pos 0) (pos 0) 1 1 7)) ∷ CallOf (Task 2 act.Lock)
     ∷ CallOf (Task 2 (act.Call Exec)) ∷ CallOf (Task 2 act.Unlock) ∷ []

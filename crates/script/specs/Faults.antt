@@ -19,15 +19,16 @@ use Rattle.script.specs.declared.fault.Reason.TheVariants as reason
 use Rattle.script.specs.declared.fault.ScriptFault.{ScriptFault}
 use Rattle.script.specs.declared.fault.ScriptRefused.{ScriptRefused}
 use Rattle.script.specs.declared.fault.ScriptRefused.TheVariants as read_error
-use Rattle.script.specs.Later.{is_one_of, begins_with_one_of, asset_words, later_words, is_later_class, is_later_call}
-use Rattle.script.specs.Scripts.{Item, Before, IsEarly, AreClassLines, class_fields, class_text, font_fields, font_text, bitmap_fields, bitmap_text, may_do, are_free, after_items, AreItemsOf}
+use Rattle.script.specs.Later.{is_one_of, begins_with_one_of, asset_words, later_words, is_later_call}
+use Rattle.script.specs.Scripts.{Item, Before, IsEarly, AreClassLines, class_text, font_fields, font_text, bitmap_fields, bitmap_text, may_do, are_free, after_items, AreItemsOf, HeadFits}
 
 -- ---- where a line stands
 
--- between items, after what stands before; or in a block
+-- between items, after what stands before; in a class; or in a font or a bitmap
 pub data Place : Type 0 where
   Between : Before → Place
-  InBlock : Place
+  InClass : Place
+  InDrawing : Place
 
 -- whole items, and what stands after them
 pub record AreWhole (lines : List (List ℕ)) (b : Before) : Type 0 where
@@ -37,8 +38,8 @@ pub record AreWhole (lines : List (List ℕ)) (b : Before) : Type 0 where
 
 -- the first line of a class that may be opened there, and lines of it
 pub record OpensClass (b : Before) (block : List (List ℕ)) : Type 0 where
-  pub back : ℕ
-  pub counted : AreIn class_fields (length b.said.assets.classes, (back, tt))
+  pub back : Option ℕ
+  pub counted : HeadFits (length b.said.assets.classes) back
   pub lines : List ClassLine
   pub body : List (List ℕ)
   pub are : AreClassLines b.said.assets back lines body
@@ -65,22 +66,23 @@ pub record OpensBitmap (b : Before) (block : List (List ℕ)) : Type 0 where
   pub open_ : place ≡ bitmap_place.AfterEnd → ⊥
   pub spelled : block ≡ bitmap_text (length b.said.assets.bitmaps) width height ∷ body
 
-abbrev pub OpensBlock : Before → List (List ℕ) → Type 0
-OpensBlock b block = OpensClass b block ⊎ OpensFont b block ⊎ OpensBitmap b block
+abbrev pub OpensDrawing : Before → List (List ℕ) → Type 0
+OpensDrawing b block = OpensFont b block ⊎ OpensBitmap b block
 
 -- whole items, and then the first lines of a block that may be opened there
-pub record AreOpen (lines : List (List ℕ)) : Type 0 where
+pub record AreOpen (Opens : Before → List (List ℕ) → Type 0) (lines : List (List ℕ)) : Type 0 where
   pub front : List (List ℕ)
   pub before : Before
   pub whole : AreWhole front before
   pub early : IsEarly before
   pub block : List (List ℕ)
-  pub opens : OpensBlock before block
+  pub opens : Opens before block
   pub spelled : lines ≡ front ++ block
 
 abbrev pub StandsAt : List (List ℕ) → Place → Type 0
 StandsAt lines (Between b) = AreWhole lines b
-StandsAt lines InBlock = AreOpen lines
+StandsAt lines InClass = AreOpen OpensClass lines
+StandsAt lines InDrawing = AreOpen OpensDrawing lines
 
 -- the lines are the first ones of a script, and after them stands this place
 abbrev pub IsFront : List (List ℕ) → Place → Type 0
@@ -94,13 +96,13 @@ is_later_in_header line = bytes_eq line (codes "buffers 2") || bytes_eq line (co
 abbrev pub is_later_elsewhere : List (List ℕ) → Bool
 is_later_elsewhere [] = false
 is_later_elsewhere (first ∷ words) =
-    is_one_of later_words first || (bytes_eq first (codes "class") && is_later_class words)
-    || (is_some (natural_in 1 16 first) && is_later_call words)
+    is_one_of later_words first || (is_some (natural_in 1 16 first) && is_later_call words)
 
 abbrev pub is_later : Place → List ℕ → Bool
 is_later (Between b) line =
     if nat_lt b.header 4 then is_later_in_header line else is_later_elsewhere (words_of line)
-is_later InBlock line = false
+is_later InClass line = false
+is_later InDrawing line = is_later_elsewhere (words_of line)
 
 -- ---- reasons
 
@@ -135,7 +137,8 @@ HoldsInBlock _ = ⊥
 
 abbrev pub HoldsAt : Place → List ℕ → Reason → Type 0
 HoldsAt (Between b) line why = HoldsBetween b line why
-HoldsAt InBlock line why = HoldsInBlock why
+HoldsAt InClass line why = HoldsInBlock why
+HoldsAt InDrawing line why = HoldsInBlock why
 
 abbrev pub Holds : Place → List ℕ → Reason → Type 0
 Holds place line reason.Ascii = is_printable line ≡ false
@@ -163,7 +166,8 @@ Why place line why = IsFirst rank (Holds place line) why
 -- the file may end after the whole header, outside blocks, where no lock is open
 abbrev pub why_cut : Place → Option Reason
 why_cut (Between b) = if b.header == 4 && are_free b.locks then None else Some reason.End
-why_cut InBlock = Some reason.End
+why_cut InClass = Some reason.End
+why_cut InDrawing = Some reason.End
 
 -- ---- faults
 

@@ -1,11 +1,11 @@
 -- What a script's lines say, read from left to right.
-use Rattle.std.specs.Prelude.{ℕ, ◌≤◌, ◌&&◌, List, [], ◌∷◌, length, Option, Some, None, nat_le, if◌then◌else◌, codes}
+use Rattle.std.specs.Prelude.{ℕ, ◌≤◌, ◌&&◌, List, [], ◌∷◌, length, Option, Some, None, nat_le, ◌==◌, if◌then◌else◌, bytes_eq, codes}
 use Rattle.spelling.specs.Parts.{is_printable}
-use Rattle.spelling.specs.Words.{◌>>=◌, natural_at, text_of_words}
+use Rattle.spelling.specs.Words.{◌>>=◌, natural_at, colour_of, text_of_words}
 use Rattle.spelling.specs.Fields.{Values, values_of, line_values}
 use Rattle.calls.specs.declared.line.Line.{Line}
 use Rattle.calls.specs.declared.line.Line.TheVariants.{Task}
-use Rattle.script.specs.Scripts.{screen_fields, desktop_fields, class_fields, font_fields, bitmap_fields}
+use Rattle.script.specs.Scripts.{screen_fields, desktop_fields, font_fields, bitmap_fields}
 
 -- the sides in the words of `screen W H`
 unfoldable pub screen_in : List (List ℕ) → Option (Values screen_fields)
@@ -15,9 +15,23 @@ screen_in words = line_values (codes "screen") screen_fields words
 unfoldable pub desktop_in : List (List ℕ) → Option (Values desktop_fields)
 desktop_in words = line_values (codes "desktop") desktop_fields words
 
--- the number and the colour in the words after `class`
-unfoldable pub class_in : List (List ℕ) → Option (Values class_fields)
-class_in words = values_of class_fields words
+-- the back colour that a word says, or that there is none
+abbrev pub back_of : List ℕ → Option (Option ℕ)
+back_of word =
+    if bytes_eq word (codes "-") then Some None
+    else (colour_of word >>= λ colour. Some (Some colour))
+
+-- the same of all the words
+abbrev pub back_in : List (List ℕ) → Option (Option ℕ)
+back_in [] = None
+back_in (word ∷ words) = if length words == 0 then back_of word else None
+
+-- the number and the back colour in the words after `class`
+unfoldable pub class_in : List (List ℕ) → Option (ℕ × Option ℕ)
+class_in words = do
+  number ← natural_at 1 63 words
+  back ← back_in number.1
+  Some (number.0, back)
 
 -- the number and the height in the words after `font`
 unfoldable pub font_in : List (List ℕ) → Option (Values font_fields)

@@ -1,7 +1,7 @@
 -- The words that decide what form a line is of, and which forms aren't built yet.
 use Rattle.std.specs.Prelude.{ℕ, Bool, false, List, [], ◌∷◌, ◌++◌, bytes_eq, codes}
 use Rattle.std.specs.List.{list_any}
-use Rattle.spelling.specs.Words.{words_of, begins_with}
+use Rattle.spelling.specs.Words.{words_of}
 
 -- the word is one of those in the text
 unfoldable pub is_one_of : List ℕ → List ℕ → Bool
@@ -23,14 +23,9 @@ later_words = codes "display viewer done"
 -- second words, after a task
 unfoldable pub later_calls : List ℕ
 later_calls =
-    codes "set_trans set_memdev set_value send select colour bk_colour text_mode font save " ++
+    codes "set_memdev select colour bk_colour text_mode font save " ++
     codes "restore fill frame line bitmap text dev_create dev_delete dev_select dev_copy begin " ++
     codes "end"
-
--- the words after `class` are of a class without a back colour
-abbrev pub is_later_class : List (List ℕ) → Bool
-is_later_class [] = false
-is_later_class (number ∷ words) = begins_with (codes "-") words
 
 -- the words after a task are of a call that isn't built
 abbrev pub is_later_call : List (List ℕ) → Bool

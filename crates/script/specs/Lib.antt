@@ -1,4 +1,3 @@
-pub mod BlockErrors
 pub mod Scripts
 pub mod Fields
 pub mod Later

@@ -1,5 +1,5 @@
 -- Reading a file line by line: what its items say, or its first fault.
-use Rattle.std.specs.Prelude.{◌≡◌, ℕ, Bool, true, false, ◌&&◌, ◌||◌, List, [], ◌∷◌, length, Option, Some, None, is_some, Result, Ok, Err, nat_lt, nat_le, ◌==◌, if◌then◌else◌, bytes_eq, codes}
+use Rattle.std.specs.Prelude.{◌≡◌, ℕ, Bool, true, false, ◌&&◌, ◌||◌, List, [], ◌∷◌, length, Option, Some, None, Result, Ok, Err, nat_lt, nat_le, ◌==◌, if◌then◌else◌, bytes_eq, codes}
 use Rattle.glyph_font.specs.declared.place.Place.TheVariants as font_place
 use Rattle.bitmap.specs.declared.place.Place.TheVariants as bitmap_place
 use Rattle.glyph_font.specs.Reading as fonts
@@ -10,7 +10,7 @@ use Rattle.class_lines.specs.Words.{class_line_of}
 use Rattle.calls.specs.declared.line.Line.{Line}
 use Rattle.calls.specs.Words.{line_of}
 use Rattle.spelling.specs.Parts.{lines_of, is_printable}
-use Rattle.spelling.specs.Words.{words_of, natural_in}
+use Rattle.spelling.specs.Words.{words_of}
 use Rattle.spelling.specs.Fields.{Values}
 use Rattle.spelling.specs.Items.{is_comment}
 use Rattle.spelling.specs.LineReading.{read_from}
@@ -27,9 +27,9 @@ use Rattle.script.specs.declared.fault.LineError.TheVariants as line_error
 use Rattle.script.specs.declared.fault.ScriptRefused.{ScriptRefused}
 use Rattle.script.specs.declared.fault.ScriptRefused.TheVariants as read_error
 use Rattle.script.specs.Fields.{screen_in, desktop_in, class_in, font_in, bitmap_in, string_in}
-use Rattle.script.specs.Later.{is_one_of, asset_words, later_words, is_later_class, is_later_call}
-use Rattle.script.specs.Scripts.{Before, Listing, Script, class_fields, font_fields, bitmap_fields, empty_listing, plain_class, with_class, with_font, with_bitmap, with_string, with_line, with_desktop, class_with, may_have, may_do, locks_with, no_locks, script_for}
-use Rattle.script.specs.Faults.{Place, Between, InBlock, why_cut}
+use Rattle.script.specs.Later.{is_one_of, asset_words}
+use Rattle.script.specs.Scripts.{Before, Listing, Script, font_fields, bitmap_fields, empty_listing, plain_class, with_class, with_font, with_bitmap, with_string, with_line, with_desktop, class_with, may_have, may_do, locks_with, no_locks, script_for}
+use Rattle.script.specs.Faults.{Place, Between, InClass, InDrawing, is_later_elsewhere, why_cut}
 
 -- ---- reasons against a line
 
@@ -40,9 +40,11 @@ header_reason line =
 
 -- against a line with this first word that is no asset's and no call
 abbrev pub call_reason : List ℕ → List (List ℕ) → Reason
-call_reason first words =
-    if is_one_of later_words first
-    || (is_some (natural_in 1 16 first) && is_later_call words) then Later else Call
+call_reason first words = if is_later_elsewhere (first ∷ words) then Later else Call
+
+-- against a line in a font or a bitmap that doesn't go on with it
+abbrev pub drawing_reason : List ℕ → Reason
+drawing_reason line = if is_later_elsewhere (words_of line) then Later else reason.Block
 
 -- ---- lines
 
@@ -102,22 +104,22 @@ class_after assets class (Some line) =
     else Err reason.Block
 
 -- a font after a line of it, and whether that was its last
-abbrev pub font_after : Option fonts.Draft → Result (Block × Bool) Reason
-font_after None = Err reason.Block
-font_after (Some font) = Ok (block.Font font, fonts.is_whole font)
+abbrev pub font_after : List ℕ → Option fonts.Draft → Result (Block × Bool) Reason
+font_after line None = Err (drawing_reason line)
+font_after line (Some font) = Ok (block.Font font, fonts.is_whole font)
 
 -- a bitmap after a line of it, and whether that was its last
-abbrev pub bitmap_after : Option bitmaps.Draft → Result (Block × Bool) Reason
-bitmap_after None = Err reason.Block
-bitmap_after (Some bitmap) = Ok (block.Bitmap bitmap, bitmaps.is_whole bitmap)
+abbrev pub bitmap_after : List ℕ → Option bitmaps.Draft → Result (Block × Bool) Reason
+bitmap_after line None = Err (drawing_reason line)
+bitmap_after line (Some bitmap) = Ok (block.Bitmap bitmap, bitmaps.is_whole bitmap)
 
 -- a block after a line of it, and whether that was its last
 unfoldable pub block_after : Assets → Block → List ℕ → Result (Block × Bool) Reason
 block_after assets (block.Class class) line =
     if bytes_eq line (codes "end") then Ok (block.Class class, true)
     else class_after assets class (class_line_of (words_of line))
-block_after assets (block.Font font) line = font_after (fonts.after_line font line)
-block_after assets (block.Bitmap bitmap) line = bitmap_after (bitmaps.after_line bitmap line)
+block_after assets (block.Font font) line = font_after line (fonts.after_line font line)
+block_after assets (block.Bitmap bitmap) line = bitmap_after line (bitmaps.after_line bitmap line)
 
 -- with what a whole block says
 abbrev pub with_block : Listing → Block → Listing
@@ -142,12 +144,12 @@ after_block b d line = gone_on d (block_after d.said.assets b line)
 
 -- ---- lines after the header
 
--- after the line that opens the class of this number and colour
-abbrev pub after_class : Draft → Option (Values class_fields) → Result Draft Reason
+-- after the line that opens the class of this number and back colour
+abbrev pub after_class : Draft → Option (ℕ × Option ℕ) → Result Draft Reason
 after_class d None = Err Asset
 after_class d (Some class) =
     if class.0 == length d.said.assets.classes
-    then Ok (opened d (block.Class (plain_class class.1.0))) else Err Asset
+    then Ok (opened d (block.Class (plain_class class.1))) else Err Asset
 
 -- after the line that opens the font of this number and height
 abbrev pub after_font : Draft → Option (Values font_fields) → Result Draft Reason
@@ -181,8 +183,7 @@ after_early d first words =
 -- after an asset's line, by its first word and the words after it
 unfoldable pub after_asset : Draft → List ℕ → List (List ℕ) → Result Draft Reason
 after_asset d first words =
-    if bytes_eq first (codes "class") && is_later_class words then Err Later
-    else (if length d.said.lines == 0 then after_early d first words else Err Late)
+    if length d.said.lines == 0 then after_early d first words else Err Late
 
 -- after a line that is no call, by its words
 abbrev pub after_other : Draft → List (List ℕ) → Result Draft Reason
@@ -247,7 +248,9 @@ place_at stage.Screen d = Between (before_at 1 d)
 place_at stage.Buffers d = Between (before_at 2 d)
 place_at stage.Desktop d = Between (before_at 3 d)
 place_at stage.Body d = Between (before_at 4 d)
-place_at (stage.Block b) d = InBlock
+place_at (stage.Block (block.Class class)) d = InClass
+place_at (stage.Block (block.Font font)) d = InDrawing
+place_at (stage.Block (block.Bitmap bitmap)) d = InDrawing
 
 abbrev pub place_of : Draft → Place
 place_of d = place_at d.stage d

@@ -1,5 +1,5 @@
 -- What a script says, and which files are scripts.
-use Rattle.std.specs.Prelude.{◌≡◌, ℕ, ◌+◌, ◌-◌, ◌≤◌, ◌==◌, slice_index, slice_set, replicate, Bool, true, ◌&&◌, List, [], ◌∷◌, ◌++◌, length, Some, nat_lt, codes, decimal}
+use Rattle.std.specs.Prelude.{◌≡◌, ℕ, ◌^◌, ◌<◌, IfSome, Option, None, ◌+◌, ◌-◌, ◌≤◌, ◌==◌, slice_index, slice_set, replicate, Bool, true, ◌&&◌, List, [], ◌∷◌, ◌++◌, length, Some, nat_lt, codes, decimal}
 use Rattle.std.specs.List.{AllByRecursion, list_all}
 use Rattle.glyph_font.specs.Fonts.{Font, IsFont}
 use Rattle.glyph_font.specs.Texts.{font_lines}
@@ -20,6 +20,7 @@ use Rattle.calls.specs.declared.line.Act.TheVariants as act
 use Rattle.calls.specs.declared.line.Line.TheVariants.{Task}
 use Rattle.calls.specs.Lines.{FitsItsTask, call_count}
 use Rattle.calls.specs.Words.{text_of_line, LineFits}
+use Rattle.spelling.specs.Digits.{hex_colour}
 use Rattle.spelling.specs.Parts.{lines_of, is_printable}
 use Rattle.spelling.specs.Words.{text_of_words}
 use Rattle.spelling.specs.Fields.{Field, Natural, Colour, AreIn, text_with}
@@ -33,10 +34,6 @@ screen_fields = Natural 1 1024 ∷ Natural 1 768 ∷ []
 abbrev pub desktop_fields : List Field
 desktop_fields = Colour ∷ []
 
--- a class's number and its back colour
-abbrev pub class_fields : List Field
-class_fields = Natural 1 63 ∷ Colour ∷ []
-
 -- a font's number and its height in points
 abbrev pub font_fields : List Field
 font_fields = Natural 0 7 ∷ Natural 1 32 ∷ []
@@ -45,9 +42,22 @@ font_fields = Natural 0 7 ∷ Natural 1 32 ∷ []
 abbrev pub bitmap_fields : List Field
 bitmap_fields = Natural 0 31 ∷ Natural 1 256 ∷ Natural 1 256 ∷ []
 
+-- a class's back colour, or `-` where it has none
+abbrev pub text_of_back : Option ℕ → List ℕ
+text_of_back None = codes "-"
+text_of_back (Some colour) = hex_colour colour
+
+abbrev pub BackFits : Option ℕ → Type 0
+BackFits back = IfSome back (λ colour. colour < 2 ^ 24)
+
 -- the line that opens a class
-abbrev pub class_text : ℕ → ℕ → List ℕ
-class_text number back = text_with (codes "class") class_fields (number, (back, tt))
+abbrev pub class_text : ℕ → Option ℕ → List ℕ
+class_text number back =
+    text_of_words (codes "class" ∷ decimal number ∷ text_of_back back ∷ [])
+
+-- the ranges of what it says
+abbrev pub HeadFits : ℕ → Option ℕ → Type 0
+HeadFits number back = (1 ≤ number) × (number ≤ 63) × BackFits back
 
 -- the line that opens a font
 abbrev pub font_text : ℕ → ℕ → List ℕ
@@ -79,9 +89,9 @@ abbrev pub empty_listing : Listing
 empty_listing =
     record { width = 0; height = 0; desktop = 0; assets = no_assets; lines = [] }
 
--- the class that has a back colour alone
-abbrev pub plain_class : ℕ → Class
-plain_class colour = record { back = Some colour; ops = []; reactions = [] }
+-- the class that has a back colour alone, or nothing
+abbrev pub plain_class : Option ℕ → Class
+plain_class back = record { back = back; ops = []; reactions = [] }
 
 -- with a class more
 abbrev pub with_class : Listing → Class → Listing
@@ -134,12 +144,12 @@ pub record IsClassLine (assets : Assets) (class : Class) (line : ClassLine)
   pub spelled : block ≡ text_of_class_line line ∷ []
 
 -- the lines of a class with this back colour, with comments between them
-abbrev pub AreClassLines : Assets → ℕ → List ClassLine → List (List ℕ) → Type 0
+abbrev pub AreClassLines : Assets → Option ℕ → List ClassLine → List (List ℕ) → Type 0
 AreClassLines assets back lines body =
     AreItems (IsClassLine assets) class_with (plain_class back) lines body
 
 -- the class of these lines
-abbrev pub class_of : ℕ → List ClassLine → Class
+abbrev pub class_of : Option ℕ → List ClassLine → Class
 class_of back lines = all_after class_with (plain_class back) lines
 
 -- ---- the lock
@@ -187,7 +197,7 @@ pub data Item : Type 0 where
   FontOf : Font → Item
   BitmapOf : Bitmap → Item
   StringOf : List ℕ → Item
-  ClassOf : ℕ → List ClassLine → Item
+  ClassOf : Option ℕ → List ClassLine → Item
   CallOf : Line → Item
 
 -- what stands before an item: how many lines of the header, what the items say, and which locks
@@ -202,7 +212,7 @@ nothing = record { header = 0; said = empty_listing; locks = no_locks }
 
 -- the desktop's class is the first one
 abbrev pub with_desktop : Listing → ℕ → Listing
-with_desktop l colour = with_class (record l { desktop = colour }) (plain_class colour)
+with_desktop l colour = with_class (record l { desktop = colour }) (plain_class (Some colour))
 
 abbrev pub after : Before → Item → Before
 after b Title = record b { header = 1 }
@@ -258,10 +268,10 @@ pub record IsStringBlock (b : Before) (text : List ℕ) (block : List (List ℕ)
   pub spelled : block ≡ string_text (length b.said.assets.strings) text ∷ []
 
 -- a class's first line, its lines with comments between them, and `end`
-pub record IsClassBlock (b : Before) (back : ℕ) (lines : List ClassLine)
+pub record IsClassBlock (b : Before) (back : Option ℕ) (lines : List ClassLine)
     (block : List (List ℕ)) : Type 0 where
   pub early : IsEarly b
-  pub counted : AreIn class_fields (length b.said.assets.classes, (back, tt))
+  pub counted : HeadFits (length b.said.assets.classes) back
   pub body : List (List ℕ)
   pub are : AreClassLines b.said.assets back lines body
   pub spelled : block ≡ class_text (length b.said.assets.classes) back ∷ body ++ codes "end" ∷ []

@@ -19,13 +19,13 @@ ghost use Rattle.script.specs.Scripts.{are_there, plain_class, may_act_with, are
 
 use crate::fault::{LineError, Reason};
 use crate::fields::{bitmap_in, class_in, desktop_in, font_in, line_in, screen_in, string_in};
-use crate::reasons::{call_reason, header_reason, is_asset_word, is_later_class};
+use crate::reasons::{call_reason, drawing_reason, header_reason, is_asset_word};
 use crate::script::Script;
-use bitmap::BitmapDraft;
+use bitmap::{BitmapDraft, BitmapLineError};
 use calls::{Act, Config, Line, call_count};
 use class_lines::{ClassLine, class_line};
 use gfx_base::Colour;
-use glyph_font::FontDraft;
+use glyph_font::{FontDraft, FontLineError};
 use paint_ops::{Assets, Class, Op};
 use spelling::word_at;
 use std::alloc::{AllocError, Global};
@@ -87,12 +87,12 @@ pub struct Draft {
     locks: [u8; 17],
 }
 
-/// The class that has a back colour alone.
-fn plain_class(alloc: Global, back: Colour) -> Class
+/// The class that has a back colour alone, or nothing.
+fn plain_class(alloc: Global, back: Option<Colour>) -> Class
     ensures { result ≡ plain_class back }
 {
     Class {
-        back: Some(back),
+        back,
         ops: Vec::new(alloc),
         reactions: Vec::new(alloc),
     }
@@ -141,7 +141,10 @@ fn take_desktop(draft: &mut Draft, line: &[u8]) -> Result<(), LineError>
         return Err(LineError::Wrong(header_reason(line)));
     };
     draft.desktop = colour;
-    draft.assets.classes.push(plain_class(draft.alloc, colour))?;
+    draft
+        .assets
+        .classes
+        .push(plain_class(draft.alloc, Some(colour)))?;
     draft.stage = Stage::Body;
     Ok(())
 }
@@ -192,14 +195,16 @@ impl Block {
         match self {
             Block::Class(_) if line == b"end".as_slice() => Ok(true),
             Block::Class(class) => take_class_line(class, assets, class_line(line)),
-            Block::Font(font) => {
-                font.take(line)?;
-                Ok(font.is_whole())
-            }
-            Block::Bitmap(bitmap) => {
-                bitmap.take(line)?;
-                Ok(bitmap.is_whole())
-            }
+            Block::Font(font) => match font.take(line) {
+                Ok(()) => Ok(font.is_whole()),
+                Err(FontLineError::Memory) => Err(LineError::Memory),
+                Err(FontLineError::Wrong) => Err(LineError::Wrong(drawing_reason(line))),
+            },
+            Block::Bitmap(bitmap) => match bitmap.take(line) {
+                Ok(()) => Ok(bitmap.is_whole()),
+                Err(BitmapLineError::Memory) => Err(LineError::Memory),
+                Err(BitmapLineError::Wrong) => Err(LineError::Wrong(drawing_reason(line))),
+            },
         }
     }
 }
@@ -239,13 +244,13 @@ fn take_class(draft: &mut Draft, rest: Option<&[u8]>) -> Result<(), LineError>
     ensures { Takes result draft.new
         (after_class (draft_of draft.old) (class_in (left rest.entry))) }
 {
-    let Some((number, colour)) = class_in(rest) else {
+    let Some((number, back)) = class_in(rest) else {
         return Err(LineError::Wrong(Reason::Asset));
     };
     if usize::from(number) != draft.assets.classes.len() {
         return Err(LineError::Wrong(Reason::Asset));
     }
-    draft.stage = Stage::Block(Block::Class(plain_class(draft.alloc, colour)));
+    draft.stage = Stage::Block(Block::Class(plain_class(draft.alloc, back)));
     Ok(())
 }
 
@@ -315,9 +320,6 @@ fn take_asset(draft: &mut Draft, first: &[u8], rest: Option<&[u8]>) -> Result<()
     ensures { Takes result draft.new
         (after_asset (draft_of draft.old) first.now (left rest.entry)) }
 {
-    if first == b"class".as_slice() && is_later_class(rest) {
-        return Err(LineError::Wrong(Reason::Later));
-    }
     if !draft.lines.is_empty() {
         return Err(LineError::Wrong(Reason::Late));
     }

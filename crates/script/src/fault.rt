@@ -3,11 +3,8 @@
 ghost use Rattle.std.specs.Prelude.{◌≡◌};
 ghost use Rattle.script.specs.declared.fault.LineError.TheVariants as line;
 ghost use Rattle.script.specs.declared.fault.ScriptRefused.TheVariants as read;
-ghost use Rattle.script.specs.BlockErrors.{of_font, of_bitmap};
 
-use bitmap::BitmapLineError;
 use gfx_base::Memory;
-use glyph_font::FontLineError;
 use std::alloc::{AllocError, AllocFailed};
 use thiserror::Error;
 
@@ -82,27 +79,5 @@ impl From<Memory> for LineError {
 
     fn from(_: Memory) -> LineError {
         LineError::Memory
-    }
-}
-
-impl From<FontLineError> for LineError {
-    ghost from_gives = { λ e f. f ≡ of_font e };
-
-    fn from(error: FontLineError) -> LineError {
-        match error {
-            FontLineError::Memory => LineError::Memory,
-            FontLineError::Wrong => LineError::Wrong(Reason::Block),
-        }
-    }
-}
-
-impl From<BitmapLineError> for LineError {
-    ghost from_gives = { λ e f. f ≡ of_bitmap e };
-
-    fn from(error: BitmapLineError) -> LineError {
-        match error {
-            BitmapLineError::Memory => LineError::Memory,
-            BitmapLineError::Wrong => LineError::Wrong(Reason::Block),
-        }
     }
 }

@@ -4,12 +4,12 @@ ghost use Rattle.std.specs.Prelude.{◌≡◌, ◌≤◌, IfSome};
 ghost use Rattle.spelling.specs.Words.{Gives, left, words_of};
 ghost use Rattle.spelling.specs.Fields.{Reads};
 ghost use Rattle.calls.specs.Words.{call_with, act_at, line_of};
-ghost use Rattle.script.specs.Fields.{screen_in, desktop_in, class_in, font_in, bitmap_in, text_in, string_in, IsTasks};
+ghost use Rattle.script.specs.Fields.{screen_in, desktop_in, back_of, back_in, class_in, font_in, bitmap_in, text_in, string_in, IsTasks};
 
 use calls::{Act, Call, Line, Word};
 use gfx_base::Colour;
 use paint_ops::Text;
-use spelling::{Args, after_word, natural_at};
+use spelling::{Args, after_word, colour, is_done, natural_at, word_at};
 
 /// The sides that `screen W H` says.
 #[tactic(auto, unfolding(crate::specs::Fields::screen_in, spelling::specs::Fields::line_values))]
@@ -40,19 +40,33 @@ pub fn desktop_in(line: &[u8]) -> Option<Colour>
     if args.is_done() { Some(colour) } else { None }
 }
 
-/// The number and the colour that the words after `class` say.
-#[tactic(auto, unfolding(crate::specs::Fields::class_in))]
-pub fn class_in(rest: Option<&[u8]>) -> Option<(u16, Colour)>
-    ensures { Gives (λ class. (class.0, (class.1, tt))) result (class_in (left rest.entry)) }
+/// The back colour that a word says, or that there is none.
+fn back(word: &[u8]) -> Option<Option<Colour>>
+    ensures { result ≡ back_of word.now }
 {
-    let mut args = Args { rest };
-    let number = args.natural(1, 63)?;
-    let colour = args.colour()?;
-    if args.is_done() {
-        Some((number, colour))
+    if word == b"-".as_slice() {
+        Some(None)
     } else {
-        None
+        Some(Some(colour(word)?))
     }
+}
+
+/// The back colour that all the words say.
+fn back_in(rest: Option<&[u8]>) -> Option<Option<Colour>>
+    ensures { result ≡ back_in (left rest.entry) }
+{
+    let (word, rest) = word_at(rest)?;
+    if is_done(rest) { back(word) } else { None }
+}
+
+/// The number and the back colour that the words after `class` say.
+#[tactic(auto, unfolding(crate::specs::Fields::class_in))]
+pub fn class_in(rest: Option<&[u8]>) -> Option<(u16, Option<Colour>)>
+    ensures { result ≡ class_in (left rest.entry) }
+{
+    let (number, rest) = natural_at(1, 63, rest)?;
+    let back = back_in(rest)?;
+    Some((number, back))
 }
 
 /// The number and the height that the words after `font` say.
@@ -145,6 +159,20 @@ fn call_with(word: Word, args: &mut Args) -> Option<Call>
         Word::SetClass => Some(Call::SetClass {
             h: args.handle()?,
             class: args.byte()?,
+        }),
+        Word::SetTrans => Some(Call::SetTrans {
+            h: args.handle()?,
+            trans: args.choice(b"0", b"1")?,
+        }),
+        Word::SetValue => Some(Call::SetValue {
+            h: args.handle()?,
+            index: args.byte()?,
+            value: args.number()?,
+        }),
+        Word::Send => Some(Call::Send {
+            h: args.handle()?,
+            message: args.byte()?,
+            argument: args.number()?,
         }),
         Word::Invalidate => Some(Call::Invalidate { h: args.handle()? }),
         Word::InvalidateRect => Some(Call::InvalidateRect {

@@ -1,12 +1,13 @@
 //! Reasons against lines, and the words that decide on a line's form.
 
-ghost use Rattle.std.specs.Prelude.{◌≡◌};
+ghost use Rattle.std.specs.Prelude.{◌≡◌, ◌∷◌};
 ghost use Rattle.spelling.specs.Words.{left, words_of};
-ghost use Rattle.script.specs.Later.{is_one_of, asset_words, is_later_class, is_later_call};
-ghost use Rattle.script.specs.Reading.{header_reason, call_reason};
+ghost use Rattle.script.specs.Later.{is_one_of, asset_words, is_later_call};
+ghost use Rattle.script.specs.Faults.{is_later_elsewhere};
+ghost use Rattle.script.specs.Reading.{header_reason, call_reason, drawing_reason};
 
 use crate::fault::Reason;
-use spelling::{begins_with, natural_in, word_at};
+use spelling::{natural_in, word_at};
 
 /// First words of assets' lines.
 const ASSET_WORDS: &[u8] = b"string class font bitmap";
@@ -15,8 +16,7 @@ const ASSET_WORDS: &[u8] = b"string class font bitmap";
 const LATER_WORDS: &[u8] = b"display viewer done";
 
 /// Second words, after a task, of such forms.
-const LATER_CALLS: &[u8] =
-    b"set_trans set_memdev set_value send select colour bk_colour text_mode font save restore fill \
+const LATER_CALLS: &[u8] = b"set_memdev select colour bk_colour text_mode font save restore fill \
     frame line bitmap text dev_create dev_delete dev_select dev_copy begin end";
 
 /// Whether the word is one of those in the text.
@@ -33,16 +33,6 @@ pub fn is_asset_word(word: &[u8]) -> bool
     ensures { result ≡ is_one_of asset_words word.now }
 {
     is_one_of(ASSET_WORDS, word)
-}
-
-/// Whether the words after `class` are of a class without a back colour.
-pub fn is_later_class(rest: Option<&[u8]>) -> bool
-    ensures { result ≡ is_later_class (left rest.entry) }
-{
-    match word_at(rest) {
-        None => false,
-        Some((_, rest)) => begins_with(b"-", rest),
-    }
 }
 
 #[tactic(auto, unfolding(crate::specs::Later::later_calls))]
@@ -66,16 +56,31 @@ pub fn header_reason(line: &[u8]) -> Reason
     }
 }
 
-/// Why a line with this first word, which is no asset's, is no call line.
+/// Whether a line with this first word and the words after it is of a form that isn't built.
 #[tactic(auto, unfolding(crate::specs::Later::later_words))]
+fn is_later(first: &[u8], rest: Option<&[u8]>) -> bool
+    ensures { result ≡ is_later_elsewhere (first.now ∷ left rest.entry) }
+{
+    is_one_of(LATER_WORDS, first) || (natural_in(1, 16, first).is_some() && is_later_call(rest))
+}
+
+/// Why a line with this first word, which is no asset's, is no call line.
 pub fn call_reason(first: &[u8], rest: Option<&[u8]>) -> Reason
     ensures { result ≡ call_reason first.now (left rest.entry) }
 {
-    if is_one_of(LATER_WORDS, first)
-        || (natural_in(1, 16, first).is_some() && is_later_call(rest))
-    {
+    if is_later(first, rest) {
         Reason::Later
     } else {
         Reason::Call
+    }
+}
+
+/// Why a line doesn't go on with a font or a bitmap.
+pub fn drawing_reason(line: &[u8]) -> Reason
+    ensures { result ≡ drawing_reason line.now }
+{
+    match word_at(Some(line)) {
+        Some((first, rest)) if is_later(first, rest) => Reason::Later,
+        _ => Reason::Block,
     }
 }

@@ -12,7 +12,7 @@ pub fn is_fault(alloc: Global, text: &[u8], line: u32, why: Reason) -> bool {
 }
 
 /// Whether this is the first fault of a text that begins so.
-fn is_fault_after(alloc: Global, front: &str, rest: &str, line: u32, why: Reason) -> bool {
+pub fn is_fault_after(alloc: Global, front: &str, rest: &str, line: u32, why: Reason) -> bool {
     match format!(in alloc; "{front}{rest}") {
         Ok(text) => is_fault(alloc, text.as_bytes(), line, why),
         Err(_) => false,
@@ -32,6 +32,9 @@ pub const HEADER: &str = "mtgui 1\nscreen 8 4\nbuffers 1\ndesktop 000000\n";
 /// The header and the first line of a class.
 const CLASS: &str = "mtgui 1\nscreen 8 4\nbuffers 1\ndesktop 000000\nclass 1 000000\n";
 
+/// The header and the first line of a class without a back colour.
+const SEE_THROUGH: &str = "mtgui 1\nscreen 8 4\nbuffers 1\ndesktop 000000\nclass 1 -\n";
+
 /// Eleven lines: a font, a bitmap and a string, and the first line of a class.
 const ASSETS: &str = "mtgui 1\nscreen 8 4\nbuffers 1\ndesktop 000000\nfont 0 1\nend\n\
     bitmap 0 1 1\n-\nend\nstring 0 a\nclass 1 000000\n";
@@ -47,10 +50,28 @@ const BITMAP: &str = "mtgui 1\nscreen 8 4\nbuffers 1\ndesktop 000000\nbitmap 0 3
 
 /// The line and the reason of the first fault of some files, what all of them begin with, and the
 /// rest of each, which `|` parts.
-type Faulty = (u32, Reason, &'static str, &'static str);
+pub type Faulty = (u32, Reason, &'static str, &'static str);
+
+/// Lines of the forms that aren't built: those with each first word, and those of a task with each
+/// word after it. What follows these words isn't looked at.
+const LATER: &str = "display tick\n|display|display x\n|viewer 1 join\n|viewer 9 x\n|viewer\n\
+    |viewer  1 take\n|done\n|done 1\n|done|1 set_memdev 0\n|1 select 2\n|1 colour FF0000\n\
+    |1 bk_colour -\n|1 text_mode trans\n|1 font 0\n|1 save\n|2 save x\n|1 save \n|16 restore\n\
+    |1 fill 0 0 1 1\n|1 frame 0 0 1 1\n|1 line 0 0 1 1\n|1 bitmap 0 0 0\n|1 text 0 0 0\n\
+    |1 dev_create 2 2\n|1 dev_delete 2\n|1 dev_select 2\n|1 dev_copy 2 0 0\n|1 begin\n\
+    |2 begin|1 end\n|16 end 1\n";
+
+/// Lines that nearly are of such forms, and lines of forms that are built. They go on with no font,
+/// bitmap or class.
+const NOT_LATER: &str = "0 save\n|17 begin\n|01 save\n|-1 end\n|save\n|1 Save\n|1 saves\n\
+    |1  save\n| 1 save\n|1\n|1 \n|Done\n|dones\n| done\n|displays tick\n|Viewer 1 join\n\
+    |1 display tick\n|1 viewer 1 join\n|1 tick\n|1 done\n|1 exec\n|16 scan|1 lock\n|1 unlock\n\
+    |1 set_trans 2 1\n|1 set_value 2 0 1\n|1 send 2 1 1\n|1 hide x\n|1 jump\n|buffers 2\n\
+    |buffers 3\n|class 2 -\n|class 1 -\n|font 1 1\n|font 0 1\n|bitmap 0 1 1\n|string 0 a\n\
+    |mtgui 1\n";
 
 /// The first of the files whose first fault is another one, by its line and the rest of its text.
-fn first_other(alloc: Global, files: &[Faulty]) -> Option<(u32, &'static str)> {
+pub fn first_other(alloc: Global, files: &[Faulty]) -> Option<(u32, &'static str)> {
     for (line, why, front, rests) in files {
         for rest in rests.split('|') {
             if !is_fault_after(alloc, front, rest, *line, *why) {
@@ -130,7 +151,7 @@ fn the_first_fault_of_a_header(rt: HostRuntime) {
 }
 
 /// Files that end too early, with and without the end of their last line.
-const CUT: [Faulty; 8] = [
+const CUT: [Faulty; 10] = [
     (1, Reason::End, "", ""),
     (2, Reason::End, "", "\n|#|mtgui 1|mtgui 1\n"),
     (3, Reason::End, SCREEN, ""),
@@ -146,7 +167,23 @@ const CUT: [Faulty; 8] = [
         6,
         Reason::End,
         HEADER,
-        "class 1 000000\n|class 1 000000|font 0 1\n|font 0 1|bitmap 0 1 1\n|bitmap 0 1 1",
+        "class 1 000000\n|class 1 000000|font 0 1\n|font 0 1|bitmap 0 1 1\n|bitmap 0 1 1\
+        |class 1 -\n|class 1 -",
+    ),
+    // A lock is open.
+    (
+        6,
+        Reason::End,
+        HEADER,
+        "1 lock\n|1 lock|2 lock\n|15 lock|16 lock\n|16 lock",
+    ),
+    (
+        8,
+        Reason::End,
+        HEADER,
+        "1 lock\n1 lock\n1 unlock\n|1 lock\n2 lock\n1 unlock|1 lock\n2 lock\n2 unlock\n\
+        |2 lock\n\n# 2 unlock|1 lock\n1 unlock\n1 lock\n|1 exec\n16 lock\n1 scan\n\
+        |3 lock\n4 lock\n5 lock|16 lock\n15 lock\n15 unlock\n|7 lock\n8 exec\n#\n",
     ),
     (
         8,
@@ -154,12 +191,13 @@ const CUT: [Faulty; 8] = [
         HEADER,
         "class 1 000000\n\n# open\n|class 1 000000\nfill 0 0 1 1 000000\non 1 set 0 1\n\
         |font 0 1\nglyph 65 1\n#|font 0 2\nglyph 65 1\n#\n|font 0 1\nglyph 65 1\n.\n\
-        |bitmap 0 3 2\n-*3\n-*3\n|bitmap 0 3 3\n-*3\n-*3|string 0 a\n#\nclass 1 000000",
+        |bitmap 0 3 2\n-*3\n-*3\n|bitmap 0 3 3\n-*3\n-*3|string 0 a\n#\nclass 1 000000\
+        |class 1 -\non 1 up 2\n# end\n|class 1 -\n\n#end",
     ),
 ];
 
 /// Faults of assets' first lines, and of strings.
-const IN_OPENINGS: [Faulty; 11] = [
+const IN_OPENINGS: [Faulty; 14] = [
     (
         5,
         Reason::Asset,
@@ -167,6 +205,15 @@ const IN_OPENINGS: [Faulty; 11] = [
         "class 0 000000\n|class 2 000000\n|class 01 000000\n|class 1 00000\n|class 1 0000000\n\
         |class 1 0000ff\n|class 1 000000 1\n|class  1 000000\n|class 1\n|class\n\
         |class 64 000000\n|class -1 000000\n|class 1 000000 \n|class x 000000\n",
+    ),
+    (
+        5,
+        Reason::Asset,
+        HEADER,
+        "class 1 --\n|class 1 - 0\n|class 1 - 000000\n|class 1 000000 -\n|class 1 - -\n\
+        |class 1 - \n|class 1  -\n|class  1 -\n|class 1 \n|class 1 -0\n|class 1 -000000\n\
+        |class 1 +\n|class 1 .\n|class -\n|class - 1\n|class 0 -\n|class 2 -\n|class 01 -\n\
+        |class 64 -\n|class x -\n|class -1 -\n|class 0 - 1\n|class 257 -\n|class 1 -1\n",
     ),
     (
         5,
@@ -207,7 +254,9 @@ const IN_OPENINGS: [Faulty; 11] = [
         HEADER,
         "class 1 000000\nend\nclass 1 000000\nend\n|class 1 000000\nend\nclass 3 000000\nend\n\
         |font 0 1\nend\nfont 0 1\nend\n|font 0 1\nend\nfont 2 1\nend\n\
-        |font 0 1\nend\nbitmap 1 1 1\n-\nend\n|font 0 1\nend\nclass 2 000000\nend\n",
+        |font 0 1\nend\nbitmap 1 1 1\n-\nend\n|font 0 1\nend\nclass 2 000000\nend\n\
+        |class 1 -\nend\nclass 1 -\nend\n|class 1 -\nend\nclass 3 000000\nend\n\
+        |class 1 000000\nend\nclass 1 -\nend\n|font 0 1\nend\nclass 2 -\nend\n",
     ),
     (
         8,
@@ -224,7 +273,25 @@ const IN_OPENINGS: [Faulty; 11] = [
         "1 exec\nclass 1 000000\nend\n|1 create 1 0 0 1 1 1\nclass 1 000000\nend\n\
         |1 exec\nclass x\n|1 exec\nclass\n|1 exec\nstring 0 a\n|1 scan\nstring\n\
         |1 exec\nstring 9 \n|1 exec\nfont 0 1\nend\n|1 exec\nfont\n|1 exec\nfont 9 99\n\
-        |1 exec\nbitmap 0 1 1\n-\nend\n|1 exec\nbitmap\n|1 exec\nbitmap 99 0 0\n",
+        |1 exec\nbitmap 0 1 1\n-\nend\n|1 exec\nbitmap\n|1 exec\nbitmap 99 0 0\n\
+        |1 exec\nclass 1 -\nend\n|1 exec\nclass 0 -\n|1 exec\nclass x -\n|1 scan\nclass - 1\n\
+        |1 send 2 1 1\nclass 1 -\nend\n|1 set_trans 2 1\nfont 0 1\nend\n",
+    ),
+    // A line on the lock is a call line too.
+    (
+        6,
+        Reason::Late,
+        HEADER,
+        "1 lock\nclass 1 000000\nend\n1 unlock\n|1 lock\nclass 1 -\nend\n1 unlock\n\
+        |1 lock\nclass\n|16 lock\nfont 0 1\nend\n|1 lock\nfont 9 9\n|2 lock\nstring 0 a\n\
+        |1 lock\nbitmap 0 1 1\n-\nend\n",
+    ),
+    (
+        7,
+        Reason::Late,
+        HEADER,
+        "1 lock\n1 unlock\nclass 1 -\nend\n|1 lock\n1 unlock\nclass 1 000000\nend\n\
+        |1 lock\n1 unlock\nstring 0 a\n|1 lock\n# \nfont\n",
     ),
     (
         8,
@@ -255,7 +322,7 @@ fn the_first_fault_of_cut_files_and_of_openings(rt: HostRuntime) {
 }
 
 /// Faults in classes.
-const IN_CLASSES: [Faulty; 9] = [
+const IN_CLASSES: [Faulty; 14] = [
     // Operations.
     (
         6,
@@ -318,12 +385,29 @@ const IN_CLASSES: [Faulty; 9] = [
         |string 0 a\n|1 exec\n|1 save\n|display tick\n|done\n|buffers 2\n|mtgui 1\n|glyph 65 1\n",
     ),
     (8, Reason::Block, CLASS, "\n# \n end\n|on 1 up 2\n\nfill\n"),
+    // Only words of operations and reactions are looked at, so no form is of a later version.
+    (6, Reason::Block, CLASS, LATER),
+    (6, Reason::Block, CLASS, NOT_LATER),
+    (6, Reason::Block, SEE_THROUGH, LATER),
+    (
+        6,
+        Reason::Block,
+        SEE_THROUGH,
+        "-\n|end -\n|fill 0 0 1 1 -\n|on 256 up 1\n|hline 0 1 2\n",
+    ),
+    (
+        8,
+        Reason::Block,
+        SEE_THROUGH,
+        "fill 0 0 1 1 000000\n# \ndone\n|on 1 up 2\n\n1 begin\n",
+    ),
     // Bytes that no line has.
     (
         6,
         Reason::Ascii,
         CLASS,
-        "fill 0 0 1 1 000000\r\n|#\u{1F}\n|end\0\n|rect\t\n|\u{7F}\n|on 256 up 1\u{200}\n",
+        "fill 0 0 1 1 000000\r\n|#\u{1F}\n|end\0\n|rect\t\n|\u{7F}\n|on 256 up 1\u{200}\n\
+        |done\t\n|1 save\r\n",
     ),
 ];
 
@@ -333,7 +417,7 @@ fn the_first_fault_of_classes(rt: HostRuntime) {
 }
 
 /// Faults in fonts and bitmaps.
-const IN_PICTURES: [Faulty; 10] = [
+const IN_PICTURES: [Faulty; 17] = [
     // Lines that open no glyph.
     (
         6,
@@ -399,12 +483,29 @@ const IN_PICTURES: [Faulty; 10] = [
         "-*3\n-*3\n-*3\nend\n|-*3\n-*3\n\nend\n|-*3\n-*3\n# x\nend\n|-*3\n-*3\nend \n\
         |-*3\n-*3\nEND\n|-*3\n-*3\n1 exec\n",
     ),
+    // Not built yet, where a glyph, a row or the end is to come.
+    (6, Reason::Later, FONT, LATER),
+    (8, Reason::Later, GLYPH, LATER),
+    (6, Reason::Later, BITMAP, LATER),
+    (
+        8,
+        Reason::Later,
+        HEADER,
+        "font 0 1\nglyph 65 1\n#\n1 save\n|font 0 1\nglyph 65 1\n#\ndone|font 0 1\nglyph 65 1\n.\n\
+        display tick\n|bitmap 0 1 2\n-\n-\n2 begin\n|bitmap 0 1 2\n-\n-\nviewer 1 join\n\
+        |bitmap 0 1 2\n-\n-\n1 end\n|bitmap 0 1 3\n-\n-\n16 frame",
+    ),
+    // Forms that are built, and other spellings.
+    (6, Reason::Block, FONT, NOT_LATER),
+    (8, Reason::Block, GLYPH, NOT_LATER),
+    (6, Reason::Block, BITMAP, NOT_LATER),
     // Bytes that no line has.
     (
         6,
         Reason::Ascii,
         FONT,
-        "glyph 65 1\t\n|\u{7F}\n|end\r\n|# \u{1F}\n|glyph 65 1\u{200}\n",
+        "glyph 65 1\t\n|\u{7F}\n|end\r\n|# \u{1F}\n|glyph 65 1\u{200}\n|done\r\n\
+        |1 save\t\n|display tick\u{7F}",
     ),
     (
         7,
@@ -421,7 +522,7 @@ fn the_first_fault_of_fonts_and_bitmaps(rt: HostRuntime) {
 }
 
 /// Faults of call lines.
-const IN_CALLS: [Faulty; 9] = [
+const IN_CALLS: [Faulty; 12] = [
     // The task, and the form of a line.
     (
         5,
@@ -465,23 +566,42 @@ const IN_CALLS: [Faulty; 9] = [
         |1 invalidate\n|1 invalidate_rect 2 0 0 1\n|1 invalidate_rect 2 0 0 1 32768\n\
         |1 invalidate_area 0 0 1 1 1\n|1 exec1 1\n|1 exec2\n",
     ),
-    // Not built yet.
     (
         5,
-        Reason::Later,
+        Reason::Call,
         HEADER,
-        "class 1 -\n|class x -\n|class 0 - 1\n|display tick\n|display\n|viewer 1 join\n\
-        |viewer 9 x\n|done\n|done 1\n|1 set_trans 2 1\n|16 set_value x\n|1 set_memdev 0\n\
-        |1 send\n|1 select 2\n|1 colour FF0000\n|1 bk_colour -\n|1 text_mode trans\n|1 font 0\n\
-        |1 save\n|1 restore\n|1 fill 0 0 1 1\n|1 frame 0 0 1 1\n|1 line 0 0 1 1\n\
-        |1 bitmap 0 0 0\n|1 text 0 0 0\n|1 dev_create 2 2\n|1 dev_delete 2\n|1 dev_select 2\n\
-        |1 dev_copy 2 0 0\n|1 begin\n|1 end\n",
+        "1 set_trans\n|1 set_trans 2\n|1 set_trans 2 2\n|1 set_trans 2 -1\n|1 set_trans 2 01\n\
+        |1 set_trans 2 00\n|1 set_trans 2 10\n|1 set_trans 2 -\n|1 set_trans 2 true\n\
+        |1 set_trans 2 1 1\n|1 set_trans 2 1 \n|1 set_trans 2  1\n|1 set_trans -1 1\n\
+        |1 set_trans 02 1\n|1 set_trans 4294967296 0\n|1 set_trans x\n|17 set_trans 2 1\n\
+        |1 set_transs 2 1\n|1 Set_trans 2 1\n",
     ),
+    (
+        5,
+        Reason::Call,
+        HEADER,
+        "16 set_value x\n|1 set_value\n|1 set_value 2\n|1 set_value 2 0\n|1 set_value 2 0 1 1\n\
+        |1 set_value 2 256 0\n|1 set_value 2 -1 0\n|1 set_value 2 00 0\n|1 set_value 2 v0 1\n\
+        |1 set_value 2 0 -32769\n|1 set_value 2 0 32768\n|1 set_value 2 0 -0\n\
+        |1 set_value 2 0 +1\n|1 set_value 2 0 a\n|1 set_value 2 0 1 \n|1 set_value -1 0 1\n\
+        |1 set_value 4294967296 0 1\n|1 set_values 2 0 1\n|0 set_value 2 0 1\n",
+    ),
+    (
+        5,
+        Reason::Call,
+        HEADER,
+        "1 send\n|1 send 2\n|1 send 2 1\n|1 send 2 1 1 1\n|1 send 2 256 0\n|1 send 2 -1 0\n\
+        |1 send 2 01 0\n|1 send 2 0 32768\n|1 send 2 0 -32769\n|1 send 2 0 -0\n|1 send 2 1 a\n\
+        |1 send 2 1 \n|1 send 2 1 1 \n|1 send 2  1 1\n|1 send 02 1 1\n|1 send 4294967296 1 1\n\
+        |1 sends 2 1 1\n|1 Send 2 1 1\n|01 send 2 1 1\n|send 2 1 1\n",
+    ),
+    // Not built yet.
+    (5, Reason::Later, HEADER, LATER),
     (
         6,
         Reason::Later,
         HEADER,
-        "1 exec\nclass 1 -\n|1 exec\nclass 0 -\n|1 exec\n1 text\n|1 exec\ndone\n",
+        "1 exec\n1 text\n|1 exec\ndone\n|1 lock\n1 save\n|1 lock\ndisplay tick|1 lock\n2 begin\n",
     ),
     // Other spellings of those.
     (

@@ -13,6 +13,8 @@ mod files;
 #[cfg(test)]
 mod limits;
 #[cfg(test)]
+mod locks;
+#[cfg(test)]
 mod scripts;
 #[cfg(test)]
 mod texts;

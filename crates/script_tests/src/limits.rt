@@ -31,11 +31,12 @@ fn a_class_has_at_most_64_operations_and_16_reactions(rt: HostRuntime) {
 
 /// Each kind of asset: its word and what follows its number, in how many lines, the first number,
 /// and how many there may be.
-const ASSETS: [(&str, &str, u32, u32, u32); 4] = [
+const ASSETS: [(&str, &str, u32, u32, u32); 5] = [
     ("font", "1\nend\n", 2, 0, 8),
     ("bitmap", "1 1\n-\nend\n", 3, 0, 32),
     ("string", "a\n", 1, 0, 256),
     ("class", "000000\nend\n", 2, 1, 63),
+    ("class", "-\nend\n", 2, 1, 63),
 ];
 
 /// How many assets a script has, without the desktop's class.

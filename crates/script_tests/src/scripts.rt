@@ -11,11 +11,12 @@ fn colour(value: u32) -> Colour {
     Colour::new(value).unwrap_or_default()
 }
 
+fn act_line(task: u16, act: Act) -> Line {
+    Line::Task { task, act }
+}
+
 fn line(task: u16, call: Call) -> Line {
-    Line::Task {
-        task,
-        act: Act::Call(call),
-    }
+    act_line(task, Act::Call(call))
 }
 
 /// A script with comments, empty lines, and no end of its last line.
@@ -43,26 +44,27 @@ fn is_commented(script: &Script) -> bool {
     script.config == config && script.lines.as_slice() == lines.as_slice()
 }
 
-/// Whether a script's classes have just these back colours.
-fn has_backs(script: &Script, values: &[u32]) -> bool {
+/// Whether a script's classes have just these back colours, or none.
+fn has_backs(script: &Script, values: &[Option<u32>]) -> bool {
     let classes = script.assets.classes.as_slice();
     let mut pairs = classes.iter().zip(values);
-    classes.len() == values.len() && pairs.all(|(class, v)| class.back == Some(colour(*v)))
+    classes.len() == values.len() && pairs.all(|(class, v)| class.back == v.map(colour))
 }
 
 #[test]
 fn a_script_with_comments(rt: HostRuntime) {
     let script = read(rt.alloc(), COMMENTED).expect(&rt, "a script");
     assert!(rt; is_commented(&script));
-    assert!(rt; has_backs(&script, &[0x03_0201, 0x0A_00FF]));
+    assert!(rt; has_backs(&script, &[Some(0x03_0201), Some(0x0A_00FF)]));
 }
 
-/// A line for each word that names a call.
+/// A line for each word that names a call, of the tasks in turn.
 const EACH_CALL: &str = "mtgui 1\nscreen 8 4\nbuffers 1\ndesktop 000000\n\
     1 create 1 -2 1 3 0 255\n2 delete 4294967295\n3 move_to 2 -32768 32767\n\
     4 move_by 3 -1 1\n5 resize 4 0 65535\n6 show 5\n7 hide 6\n8 to_top 7\n9 to_bottom 8\n\
-    10 set_class 9 1\n11 invalidate 10\n12 invalidate_rect 11 1 2 3 4\n\
-    13 invalidate_area -1 -2 3 4\n14 exec\n15 exec1\n16 scan\n";
+    10 set_class 9 1\n11 set_trans 10 1\n12 set_trans 11 0\n13 set_value 12 255 -32768\n\
+    14 send 13 255 32767\n15 invalidate 14\n16 invalidate_rect 15 1 2 3 4\n\
+    1 invalidate_area -1 -2 3 4\n2 exec\n3 exec1\n4 scan\n";
 
 #[test]
 fn each_word_is_its_call(rt: HostRuntime) {
@@ -97,9 +99,24 @@ fn each_word_is_its_call(rt: HostRuntime) {
         Call::ToTop { h: 7 },
         Call::ToBottom { h: 8 },
         Call::SetClass { h: 9, class: 1 },
-        Call::Invalidate { h: 10 },
-        Call::InvalidateRect {
+        Call::SetTrans { h: 10, trans: true },
+        Call::SetTrans {
             h: 11,
+            trans: false,
+        },
+        Call::SetValue {
+            h: 12,
+            index: 255,
+            value: i16::MIN,
+        },
+        Call::Send {
+            h: 13,
+            message: 255,
+            argument: i16::MAX,
+        },
+        Call::Invalidate { h: 14 },
+        Call::InvalidateRect {
+            h: 15,
             x0: 1,
             y0: 2,
             x1: 3,
@@ -117,7 +134,7 @@ fn each_word_is_its_call(rt: HostRuntime) {
     ];
     let mut task = 0u16;
     for (read, call) in script.lines.iter().zip(&calls) {
-        task = task.wrapping_add(1);
+        task = if task < 16 { task.wrapping_add(1) } else { 1 };
         assert!(rt; *read == line(task, *call), "task {task}");
     }
     assert_eq!(rt; script.lines.len(), calls.len());
@@ -125,7 +142,7 @@ fn each_word_is_its_call(rt: HostRuntime) {
 
 /// Texts of the least and the greatest numbers, with the screen's sides, the desktop's colour and
 /// the number of calls.
-const ENDS_OF_RANGES: [(&str, u16, u16, u32, u32); 5] = [
+const ENDS_OF_RANGES: [(&str, u16, u16, u32, u32); 8] = [
     (
         "mtgui 1\nscreen 1 1\nbuffers 1\ndesktop FFFFFF",
         1,
@@ -161,6 +178,30 @@ const ENDS_OF_RANGES: [(&str, u16, u16, u32, u32); 5] = [
         768,
         0,
         0,
+    ),
+    (
+        "mtgui 1\nscreen 8 4\nbuffers 1\ndesktop 000000\n1 set_trans 0 0\n\
+        1 set_trans 4294967295 1\n1 set_value 0 0 32767\n1 set_value 4294967295 255 -32768\n\
+        1 send 0 0 -32768\n1 send 4294967295 255 32767",
+        8,
+        4,
+        0,
+        6,
+    ),
+    // Lines on the lock are no calls.
+    (
+        "mtgui 1\nscreen 8 4\nbuffers 1\ndesktop 000000\n1 lock\n16 lock\n1 unlock\n16 unlock",
+        8,
+        4,
+        0,
+        0,
+    ),
+    (
+        "mtgui 1\nscreen 8 4\nbuffers 1\ndesktop 000000\n1 lock\n2 exec\n1 unlock\n1 scan\n",
+        8,
+        4,
+        0,
+        2,
     ),
 ];
 
@@ -267,6 +308,94 @@ fn reads_panel_class(alloc: Global) -> Option<bool> {
 #[test]
 fn a_class_has_operations_and_reactions_each_in_order(rt: HostRuntime) {
     assert_eq!(rt; reads_panel_class(rt.alloc()), Some(true));
+}
+
+/// Classes without a back colour among others: one with comments, operations and reactions, and one
+/// with nothing.
+const SEE_THROUGH: &str = "class 1 0A0B0C\nend\nclass 2 -\nhline 0 1 2 0000FF\n# a comment\n\
+    on 7 set 0 a\n\nvline -1 0 h 000001\non 8 up 9\nend\nclass 3 000000\non 1 up 2\nend\n\
+    class 4 -\nend\n1 create 1 0 0 1 1 2\n";
+
+/// Whether a class says what the lines of the second one say.
+fn is_see_through(class: &Class) -> bool {
+    let height = Num {
+        base: Base::Height,
+        plus: 0,
+    };
+    let ops = [
+        Op::HLine(number(0), number(1), number(2), colour(0x00_00FF)),
+        Op::VLine(number(-1), number(0), height, colour(1)),
+    ];
+    let reactions = [
+        Reaction {
+            on: 7,
+            react: React::Set(0, Operand::Argument),
+        },
+        Reaction {
+            on: 8,
+            react: React::Up(9),
+        },
+    ];
+    class.back.is_none()
+        && class.ops.as_slice() == ops.as_slice()
+        && class.reactions.as_slice() == reactions.as_slice()
+}
+
+/// How many operations and reactions the classes of a script have.
+fn sizes(script: &Script) -> [(usize, usize); 5] {
+    let mut sizes = [(9, 9); 5];
+    for (size, class) in sizes.iter_mut().zip(&script.assets.classes) {
+        *size = (class.ops.len(), class.reactions.len());
+    }
+    sizes
+}
+
+/// The back colours of those classes, with the desktop's.
+const BACKS: [Option<u32>; 5] = [Some(0), Some(0x0A_0B0C), None, Some(0), None];
+
+fn reads_see_through(alloc: Global) -> Option<bool> {
+    let text = format!(in alloc; "{HEADER}{SEE_THROUGH}").ok()?;
+    let script = read(alloc, text.as_bytes()).ok()?;
+    Some(
+        has_backs(&script, &BACKS)
+            && is_see_through(script.assets.classes.get(2)?)
+            && sizes(&script) == [(0, 0), (0, 0), (2, 2), (0, 1), (0, 0)]
+            && script.config.calls == 1,
+    )
+}
+
+#[test]
+fn classes_without_a_back_colour(rt: HostRuntime) {
+    assert_eq!(rt; reads_see_through(rt.alloc()), Some(true));
+}
+
+/// Locks of two tasks that lie in each other, with calls between.
+const LOCKED: &str = "3 lock\n3 lock\n# held\n16 exec\n3 unlock\n16 lock\n\n3 scan\n3 unlock\n\
+    16 unlock";
+
+/// Whether a script says what those lines say.
+fn is_locked(script: &Script) -> bool {
+    let lines = [
+        act_line(3, Act::Lock),
+        act_line(3, Act::Lock),
+        line(16, Call::Exec),
+        act_line(3, Act::Unlock),
+        act_line(16, Act::Lock),
+        line(3, Call::Scan),
+        act_line(3, Act::Unlock),
+        act_line(16, Act::Unlock),
+    ];
+    script.config.calls == 2 && script.lines.as_slice() == lines.as_slice()
+}
+
+fn reads_locked(alloc: Global) -> Option<bool> {
+    let text = format!(in alloc; "{HEADER}{LOCKED}").ok()?;
+    Some(is_locked(&read(alloc, text.as_bytes()).ok()?))
+}
+
+#[test]
+fn locks_are_lines_and_no_calls(rt: HostRuntime) {
+    assert_eq!(rt; reads_locked(rt.alloc()), Some(true));
 }
 
 /// Strings' lines, each with its text: with spaces in it and around it, with none, of 64 bytes, and

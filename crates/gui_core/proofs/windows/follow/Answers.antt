@@ -4,6 +4,7 @@ use Rattle.scene.specs.Clips.{clip_in}
 use Rattle.scene.specs.Stacks.{IsStack}
 use Rattle.scene.proofs.CallerLemmas.{bare}
 use Rattle.gui_core.specs.Windows.{are_as_they_were, clip_at, listed, after_change}
+use Rattle.gui_core.proofs.StepLemmas.{rest_same}
 use Rattle.gui_core.proofs.FollowLemmas.{areas_valid, AreSteps, steps_follow, bare_steps, stack_steps, given_bare}
 use Rattle.gui_core.proofs.windows.follow.Goals as goal
 
@@ -29,9 +30,10 @@ put_back-requires-clause-stack c =
 
 pub put_back-requires-clause-rest : goal.put_back-requires-clause-rest
 put_back-requires-clause-rest c =
-    ap (map bare) c.deref-6.ensures.0
+    rest_same _ _
+    (ap (map bare) c.deref-6.ensures.0
     ∙ bare_steps c.args.screen.now c.args.h c.args.stack.now.items c.walk.new.out.items c.take_over.new.stack.items c.invalidate_clip.new.stack.items c.invalidate_clip-2.new.stack.items c.args.before c.clip_at-now.result (steps c)
-    ∙ sym (ap (map bare) c.deref-5.ensures.0)
+    ∙ sym (ap (map bare) c.deref-5.ensures.0))
 
 pub returns : goal.returns
 returns c =

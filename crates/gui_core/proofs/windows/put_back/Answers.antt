@@ -3,11 +3,10 @@ use Rattle.std.proofs.lemmas.List.{append-nil, take_all, drop_all}
 use Rattle.scene.specs.declared.win.Win.{Win}
 use Rattle.scene.specs.Places.{window_of, no_window}
 use Rattle.scene.specs.Families.{window_changed}
-use Rattle.scene.proofs.CallerLemmas.{length-same}
 use Rattle.win_tree.specs.Trees.{Scene, IsReplacement}
-use Rattle.gui_core.proofs.StepLemmas.{AreAt, put_step, stay_step, put_replaces}
+use Rattle.gui_core.proofs.StepLemmas.{length_same, AreAt, put_step, stay_step, put_replaces}
 use Rattle.gui_core.proofs.windows.put_back.Goals as goal
-use Rattle.gui_core.proofs.windows.put_back.Goals.{then-not-wait_alike, else-not-wait_alike}
+use Rattle.gui_core.proofs.windows.put_back.Goals.{then-not-are_alike, else-not-are_alike}
 
 pub loop-i-init : goal.loop-i-init
 loop-i-init c = ap (λ (vs : List Win). record c.args.tree.now { windows = vs }) c.requires.tree
@@ -26,9 +25,9 @@ loop-i-preserved c =
     let w = get_or new i no_window in
     let a : AreAt new old i = record { stack = c.requires.stack; rest = c.requires.rest; there = c.loop-i-test.true } in
     let scene : List Win → Scene = λ vs. record { windows = vs; handles = c.args.tree.now.handles } in
-    elim c.if-not-wait_alike.branch [
-      | then-not-wait_alike b ↦ b.tree-is ∙ b.put.ensures ∙ ap (λ (s : Scene). record { windows = window_changed w.handle (λ u. w) s.windows; handles = s.handles }) c.loop-i.invariant ∙ ap scene (put_step new old i a)
-      | else-not-wait_alike b ↦ b.tree-is ∙ c.loop-i.invariant ∙ ap scene (stay_step new old i a b.if-not-wait_alike.ensures)
+    elim c.if-not-are_alike.branch [
+      | then-not-are_alike b ↦ b.tree-is ∙ b.put.ensures ∙ ap (λ (s : Scene). record { windows = window_changed w.handle (λ u. w) s.windows; handles = s.handles }) c.loop-i.invariant ∙ ap scene (put_step new old i a)
+      | else-not-are_alike b ↦ b.tree-is ∙ c.loop-i.invariant ∙ ap scene (stay_step new old i a b.if-not-are_alike.ensures.0 b.if-not-are_alike.ensures.1)
     ]
 
 pub returns : goal.returns
@@ -36,7 +35,7 @@ returns c =
     let new = c.args.new.now in
     let old = c.args.old.now in
     let i = c.loop-i.i in
-    let same = length-same old new c.requires.rest in
+    let same = length_same old new c.requires.rest in
     c.loop-i.invariant
     ∙ ap (λ (vs : List Win). record c.args.tree.now { windows = vs })
     (ap (λ (vs : List Win). vs ++ drop i old) (take_all i new (omega arith)) ∙ ap (λ (vs : List Win). new ++ vs) (drop_all i old (omega arith)) ∙ append-nil new)

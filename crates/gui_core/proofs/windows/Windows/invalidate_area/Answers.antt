@@ -3,6 +3,7 @@ use Rattle.scene.specs.Clips.{clip_in}
 use Rattle.scene.specs.Stacks.{IsStack, AreGiven}
 use Rattle.scene.proofs.CallerLemmas.{bare}
 use Rattle.win_tree.specs.Trees.{Scene}
+use Rattle.gui_core.proofs.StepLemmas.{rest_same}
 use Rattle.gui_core.proofs.FollowLemmas.{areas_valid, areas_bare, given_bare}
 use Rattle.gui_core.proofs.windows.Windows.invalidate_area.Goals as goal
 
@@ -14,9 +15,10 @@ put_back-requires-clause-stack c =
 pub put_back-requires-clause-rest : goal.put_back-requires-clause-rest
 put_back-requires-clause-rest c =
     let ws = c.self.inside.stack.items in
-    ap (map bare) (c.deref-2.ensures.0 ∙ c.invalidate_clip.ensures)
+    rest_same _ _
+    (ap (map bare) (c.deref-2.ensures.0 ∙ c.invalidate_clip.ensures)
     ∙ areas_bare (clip_in c.args.screen.now ws) (c.args.area.now ∷ []) ws
-    ∙ sym (ap (map bare) (c.deref.ensures.0 ∙ c.take_over.ensures ∙ c.as_slice.ensures.value))
+    ∙ sym (ap (map bare) (c.deref.ensures.0 ∙ c.take_over.ensures ∙ c.as_slice.ensures.value)))
 
 pub invariant_of-self : goal.invariant_of-self
 invariant_of-self c =

@@ -1,0 +1,6 @@
+mod WindowLemmas
+mod DeliveryLemmas
+mod KeepingLemmas
+mod LawLemmas
+mod DamageLemmas
+pub mod CallerLemmas

@@ -1,0 +1,4 @@
+pub mod Reactions
+pub mod Delivery
+pub mod Puts
+pub mod Examples
