@@ -1,0 +1,176 @@
+//! Makes calls on windows that lie in one another again and again, so that they can be timed, or
+//! changes a bar below a window that is seen through and paints it. The words are what is done,
+//! with how many windows, and how often.
+#![tactic(auto)]
+
+use calls::{Call, Config};
+use gui_core::Gui;
+use scene::Stack;
+use script::{Script, read};
+use std::alloc::Global;
+use std::env;
+use std::marker::Model;
+use std::process::ExitCode;
+
+/// The first class has a bar, adds a message's argument to its value, and hands the message on. One
+/// sees through the second.
+const HEADER: &str = "mtgui 1\nscreen 1024 768\nbuffers 1\ndesktop 000000\nclass 1 0000FF\n\
+    fill 0 0 v0 11 FF0000\non 0 add 0 a\non 0 up 0\nend\nclass 2 -\n\
+    frame 0 0 w-1 h-1 FFFFFF\nhline 0 w-1 6 FFFFFF\nend\n";
+
+/// The most calls that a core takes.
+const MOST: u32 = 400_000;
+
+/// The task that makes the calls.
+const TASK: u16 = 1;
+
+/// A core, and for how many calls more it has room.
+#[derive(Drop)]
+struct Session {
+    gui: Gui,
+    left: u32,
+}
+
+impl Model for Session {
+    ghost use Rattle.std.specs.Prelude.{◌+◌, ◌≤◌};
+    ghost use Rattle.gui_core.specs.Machines.{Machine};
+
+    ghost Value = { Machine };
+
+    ghost view = { λ s. s.gui };
+
+    ghost invariant = { λ s. s.gui.made + s.left ≤ s.gui.setup.config.calls };
+}
+
+impl Session {
+    /// A core with the desktop alone.
+    fn open(alloc: Global) -> Option<Session> {
+        let Script {
+            config,
+            assets,
+            lines: _,
+        } = read(alloc, HEADER.as_bytes()).ok()?;
+        let config = Config {
+            calls: MOST,
+            ..config
+        };
+        Some(Session {
+            gui: Gui::open_alone(alloc, assets, config).ok()?,
+            left: MOST,
+        })
+    }
+
+    /// Makes a call, where there is room for one more.
+    fn call(&mut self, alloc: Global, call: &Call) {
+        if self.left == 0 || !call.fits(TASK) {
+            return;
+        }
+        let mut taken = Vec::new(alloc);
+        self.left -= 1;
+        let _ = self.gui.apply(alloc, TASK, call, &mut taken);
+    }
+
+    /// Makes so many windows, in chains of seven that lie in one another on the desktop.
+    fn fill(&mut self, alloc: Global, windows: u32) {
+        for last in 1..windows {
+            let parent = if (last - 1) % 7 == 0 { 1 } else { last };
+            self.call(alloc, &create(parent, (100, 100), 1));
+        }
+    }
+
+    /// Makes a bar of 100 by 12 points and lays a window that is seen through over it.
+    fn lay_bar(&mut self, alloc: Global) {
+        self.call(alloc, &create(1, (100, 12), 1));
+        self.call(alloc, &create(1, (200, 40), 2));
+        self.call(alloc, &Call::Exec);
+    }
+
+    /// Makes both calls in turn, so often together, and tells the sum of the windows' values.
+    fn repeat(&mut self, alloc: Global, first: &Call, second: &Call, rounds: u32) -> i32 {
+        for round in 0..rounds {
+            let call = if round % 2 == 0 { first } else { second };
+            self.call(alloc, call);
+        }
+        let mut windows = Stack::new();
+        self.gui.windows(&mut windows);
+        let mut sum = 0i32;
+        for w in windows.iter() {
+            sum = sum.wrapping_add(i32::from(w.values[0]));
+        }
+        sum
+    }
+}
+
+fn create(parent: u32, (w, h): (u16, u16), class: u8) -> Call {
+    Call::Create {
+        parent,
+        x: 1,
+        y: 1,
+        w,
+        h,
+        class,
+    }
+}
+
+fn set_value(h: u32, value: i16) -> Call {
+    Call::SetValue { h, index: 0, value }
+}
+
+fn send(h: u32, argument: i16) -> Call {
+    Call::Send {
+        h,
+        message: 0,
+        argument,
+    }
+}
+
+/// The deepest window of the last chain of seven, or the last of all where no chain has as many.
+fn deepest(windows: u32) -> u32 {
+    let chains = windows.saturating_sub(1) / 7;
+    if chains == 0 {
+        windows
+    } else {
+        chains.wrapping_mul(7).wrapping_add(1)
+    }
+}
+
+/// Does what the name says so often, and tells the sum of the windows' values. `None` where memory
+/// runs out or it is no name.
+fn measure(alloc: Global, name: &str, windows: u32, rounds: u32) -> Option<i32> {
+    let mut session = Session::open(alloc)?;
+    session.fill(alloc, windows);
+    let h = deepest(windows);
+    match name {
+        "refused" => Some(session.repeat(alloc, &set_value(0, 1), &set_value(0, 2), rounds)),
+        "set_value" => Some(session.repeat(alloc, &set_value(h, 1), &set_value(h, 2), rounds)),
+        "same_value" => Some(session.repeat(alloc, &set_value(h, 1), &set_value(h, 1), rounds)),
+        "send" => Some(session.repeat(alloc, &send(h, 1), &send(h, -1), rounds)),
+        "bar" => {
+            session.lay_bar(alloc);
+            Some(session.repeat(alloc, &send(2, 1), &Call::Exec, rounds))
+        }
+        _ => None,
+    }
+}
+
+/// What the words ask for. `None` where they are others.
+fn asked(rt: &HostRuntime) -> Option<(String, u32, u32)> {
+    let mut words = env::args(rt).ok()?.skip(1);
+    let name = words.next()?;
+    let windows = words.next()?.parse::<u32>().ok()?;
+    let rounds = words.next()?.parse::<u32>().ok()?;
+    Some((name, windows, rounds))
+}
+
+fn main(rt: HostRuntime) -> ExitCode {
+    let Some((name, windows, rounds)) = asked(&rt) else {
+        return ExitCode::from(2);
+    };
+    let Some(sum) = measure(rt.alloc(), name.as_str(), windows, rounds) else {
+        return ExitCode::from(2);
+    };
+    match println!(rt; "{sum}") {
+        Ok(()) => ExitCode::from(0),
+        Err(_) => ExitCode::from(1),
+    }
+}
