@@ -1,4 +1,5 @@
-//! Tests of drawing operations: against a plain program at every point, and of what they draw with.
+//! Tests of drawing operations: against a plain program at every point, of what they draw with, and
+//! of the spans in which they draw.
 #![tactic(auto)]
 
 #[cfg(test)]
@@ -7,5 +8,7 @@ mod assets;
 mod coverage;
 #[cfg(test)]
 mod operations;
+#[cfg(test)]
+mod spans;
 #[cfg(test)]
 mod texts;

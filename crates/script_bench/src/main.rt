@@ -24,6 +24,8 @@ enum Filling {
     Calls,
     /// Calls with a comment after each.
     Commented,
+    /// Calls with eighteen comments after each: with the most calls, nearly the most bytes.
+    Full,
     /// Bitmaps of a run for each point, and of runs of two points.
     Bitmaps,
     Runs,
@@ -36,6 +38,7 @@ impl Filling {
         match name {
             "calls" => Some(Filling::Calls),
             "commented" => Some(Filling::Commented),
+            "full" => Some(Filling::Full),
             "bitmaps" => Some(Filling::Bitmaps),
             "runs" => Some(Filling::Runs),
             "fonts" => Some(Filling::Fonts),
@@ -46,7 +49,7 @@ impl Filling {
     /// How many of them a script has.
     fn count(self, script: &Script) -> usize {
         match self {
-            Filling::Calls | Filling::Commented => script.lines.len(),
+            Filling::Calls | Filling::Commented | Filling::Full => script.lines.len(),
             Filling::Bitmaps | Filling::Runs => script.assets.bitmaps.len(),
             Filling::Fonts => script.assets.fonts.len(),
         }
@@ -110,6 +113,10 @@ fn script_with(alloc: Global, filling: Filling, count: u32) -> Option<String> {
     let body = match filling {
         Filling::Calls => call_lines(alloc, "", count)?,
         Filling::Commented => call_lines(alloc, "# and painted\n\n", count)?,
+        Filling::Full => {
+            let comments = repeated(alloc, "# it's done\n", 18)?;
+            call_lines(alloc, comments.as_str(), count)?
+        }
         Filling::Bitmaps => bitmaps(alloc, "FF0000 00FF00 123ABC 0000FF ", count)?,
         Filling::Runs => bitmaps(alloc, "FF0000*2 -*2 ", count)?,
         Filling::Fonts => fonts(alloc, count)?,
