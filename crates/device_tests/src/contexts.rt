@@ -1,9 +1,10 @@
 //! Random calls of sixteen tasks, held against a stack of contexts for each task, on which the last
 //! one is what the task draws with.
 
-use crate::numbers::Numbers;
+use crate::colours::any_colour;
 use context::{Context, ContextDepth, Contexts, NoContext};
 use gfx_base::Colour;
+use samples::Numbers;
 use std::alloc::{AllocError, Global};
 use std::test::*;
 
@@ -71,8 +72,8 @@ impl Plain {
 
 fn any_context(numbers: &mut Numbers) -> Context {
     Context {
-        colour: numbers.colour(),
-        bk: numbers.colour(),
+        colour: any_colour(numbers),
+        bk: any_colour(numbers),
         font: numbers.below(16) as u8,
         trans_text: numbers.below(2) == 0,
         window: u32::from(numbers.below(300)),
@@ -93,7 +94,7 @@ fn other_tasks(contexts: &Contexts, plain: &Plain) -> u32 {
 
 /// Makes so many calls on both, and tells how many were answered in two ways or left tasks with two
 /// contexts.
-fn wrong_answers(alloc: Global, seed: u32, calls: u32) -> Result<u32, Fail> {
+fn wrong_answers(alloc: Global, seed: u64, calls: u32) -> Result<u32, Fail> {
     let mut contexts = Contexts::new();
     let mut plain = Plain::open(alloc)?;
     let mut numbers = Numbers::new(seed);
@@ -119,7 +120,7 @@ fn wrong_answers(alloc: Global, seed: u32, calls: u32) -> Result<u32, Fail> {
 
 #[test]
 fn random_calls_do_what_a_plain_program_does(rt: HostRuntime) -> Result<(), Fail> {
-    for seed in 0..20u32 {
+    for seed in 0..20 {
         assert_eq!(rt; wrong_answers(rt.alloc(), seed, 400)?, 0, "seed {seed}");
     }
     Ok(())

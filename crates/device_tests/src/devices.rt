@@ -2,10 +2,11 @@
 
 ghost use Rattle.std.specs.Prelude.{◌≤◌};
 
+use crate::colours::any_colour;
 use crate::devices::Act::{Create, Delete};
-use crate::numbers::Numbers;
 use gfx_base::Colour;
 use memdev::{DevRefused, Devices};
+use samples::Numbers;
 use std::alloc::{AllocError, Global};
 use std::test::*;
 
@@ -163,7 +164,7 @@ impl Plain {
 
 fn any_act(numbers: &mut Numbers) -> Act {
     let d = u32::from(numbers.below(40));
-    let colour = numbers.colour();
+    let colour = any_colour(numbers);
     match numbers.below(8) {
         0..4 => Act::Create(numbers.below(4), numbers.below(4), colour),
         4..6 => Act::Delete(d),
@@ -184,7 +185,7 @@ fn other_devices(devices: &Counted, plain: &Plain) -> u32 {
 
 /// Makes so many calls on both, and tells how many were answered in two ways or left two kinds of
 /// devices.
-fn wrong_answers(alloc: Global, seed: u32, calls: u32) -> Result<u32, Fail> {
+fn wrong_answers(alloc: Global, seed: u64, calls: u32) -> Result<u32, Fail> {
     let mut devices = Counted::new();
     let mut plain = Plain {
         entries: Vec::new(alloc),
@@ -204,7 +205,7 @@ fn wrong_answers(alloc: Global, seed: u32, calls: u32) -> Result<u32, Fail> {
 
 #[test]
 fn random_calls_do_what_a_plain_program_does(rt: HostRuntime) -> Result<(), Fail> {
-    for seed in 0..20u32 {
+    for seed in 0..20 {
         assert_eq!(rt; wrong_answers(rt.alloc(), seed, 120)?, 0, "seed {seed}");
     }
     Ok(())

@@ -2,8 +2,8 @@
 #![tactic(auto)]
 
 #[cfg(test)]
+mod colours;
+#[cfg(test)]
 mod contexts;
 #[cfg(test)]
 mod devices;
-#[cfg(test)]
-mod numbers;

@@ -3,17 +3,17 @@
 //! often they are painted. With no window all rows are filled by whole spans.
 #![tactic(auto)]
 
-ghost use Rattle.std.specs.Prelude.{◌≡◌, ◌≤◌, length, true, IfSome};
+ghost use Rattle.std.specs.Prelude.{◌≡◌, ◌≤◌, length, IfSome};
 ghost use Rattle.std.specs.List.{AllByRecursion};
-ghost use Rattle.paint_ops.specs.Kinds.{Assets as Content};
-ghost use Rattle.paint_ops.specs.Soundness.{IsClass, IsSound};
+ghost use Rattle.paint_ops.specs.Soundness.{IsSound};
 ghost use Rattle.scene.specs.Looks.{IsPaintable};
 ghost use Rattle.scene.specs.Places.{AreSingle};
 
 use exec_paint::job;
 use frame::Frame;
 use gfx_base::Colour;
-use paint_ops::{Assets, Class};
+use paint_ops::Assets;
+use samples::{are_paintable, are_single, assets_of, class};
 use scene::{Stack, Win, screen};
 use std::alloc::Global;
 use std::env;
@@ -23,31 +23,13 @@ fn blue() -> Colour {
     Colour::new(0xFF).unwrap_or_default()
 }
 
-/// A class of a back colour alone.
-fn class(alloc: Global, back: Colour) -> Class
-    ensures { (assets : Content) → IsClass assets result }
-{
-    Class {
-        back: Some(back),
-        ops: Vec::new(alloc),
-        reactions: Vec::new(alloc),
-    }
-}
-
 /// Assets of two classes: the desktop's, and a blue one.
 fn assets(alloc: Global) -> Option<Assets>
     ensures { IfSome result IsSound }
 {
-    let classes = [class(alloc, Colour::default()), class(alloc, blue())];
-    match Vec::from_array(alloc, classes) {
-        Ok(classes) => Some(Assets {
-            classes,
-            fonts: Vec::new(alloc),
-            bitmaps: Vec::new(alloc),
-            strings: Vec::new(alloc),
-        }),
-        Err(_) => None,
-    }
+    let black = class(alloc, Some(Colour::default()), &[], &[])?;
+    let blue = class(alloc, Some(blue()), &[], &[])?;
+    assets_of(alloc, [black, blue])
 }
 
 /// The desktop, and so many windows on it, which lie side by side in rows.
@@ -81,39 +63,6 @@ fn grid(w: u16, h: u16, windows: u16) -> Stack {
         let _ = stack.try_push(window);
     }
     stack
-}
-
-fn is_paintable(w: &Win, assets: &Assets) -> bool
-    ensures { result ≡ true → IsPaintable assets.now w.now }
-{
-    w.w <= 4096 && w.h <= 4096 && usize::from(w.class) < assets.classes.len()
-}
-
-/// Whether the windows may be painted.
-fn are_paintable(stack: &[Win], assets: &Assets) -> bool
-    ensures { result ≡ true → AllByRecursion (IsPaintable assets.now) stack.now }
-{
-    for w in stack {
-        if !is_paintable(w, assets) {
-            return false;
-        }
-    }
-    true
-}
-
-/// Whether no handle stands twice: each is above those before it.
-fn are_single(stack: &[Win]) -> bool
-    ensures { result ≡ true → AreSingle stack.now }
-{
-    let mut next = u32::MAX;
-    for i in (0..stack.len()).rev() {
-        let handle = stack[i].handle;
-        if next <= handle {
-            return false;
-        }
-        next = handle;
-    }
-    true
 }
 
 /// Paints each window but the desktop.

@@ -4,99 +4,83 @@ ghost use Rattle.std.specs.Prelude.{◌<◌};
 ghost use Rattle.paint_ops.specs.Soundness.{IsSound};
 
 use crate::plain::{self, Message};
-use crate::sound::{are_single, assets};
+use crate::sound::assets;
 use gfx_base::Rect;
 use messages::{deliver, put_values};
 use paint_ops::{Assets, Operand, React, Reaction};
+use samples::{Numbers, are_single};
 use scene::{Win, screen};
 use std::alloc::Global;
-
-/// Numbers that look random, each made from the one before.
-#[derive(Drop)]
-struct Numbers {
-    last: u32,
-}
 
 /// Numbers of 16 bits, from near their ends and from near 0.
 const SPECIAL: [i16; 8] = [-32768, -32767, -20000, -1, 0, 1, 20000, 32767];
 
-impl Numbers {
-    /// The next number, which is below `end`.
-    fn below(&mut self, end: u16) -> u16
-        requires { 0 < end }
-        ensures { result < end }
-    {
-        self.last = self.last.wrapping_mul(1_103_515_245).wrapping_add(12_345);
-        (self.last >> 16) as u16 % end
-    }
+fn any_number(numbers: &mut Numbers) -> i16 {
+    let i = numbers.below(8);
+    SPECIAL[usize::from(i)]
+}
 
-    fn number(&mut self) -> i16 {
-        let i = self.below(8);
-        SPECIAL[usize::from(i)]
+fn any_operand(numbers: &mut Numbers) -> Operand {
+    if numbers.below(3) == 0 {
+        Operand::Argument
+    } else {
+        Operand::Const(any_number(numbers))
     }
+}
 
-    fn operand(&mut self) -> Operand {
-        if self.below(3) == 0 {
-            Operand::Argument
-        } else {
-            Operand::Const(self.number())
-        }
-    }
+/// A reaction to one of four messages, which may change one of two values.
+fn any_reaction(numbers: &mut Numbers) -> Reaction {
+    let on = numbers.below(4) as u8;
+    let i = numbers.below(2) as u8 * 15;
+    let react = match numbers.below(4) {
+        0 => React::Set(i, any_operand(numbers)),
+        1 => React::Add(i, any_operand(numbers)),
+        _ => React::Up(numbers.below(4) as u8),
+    };
+    Reaction { on, react }
+}
 
-    /// A reaction to one of four messages, which may change one of two values.
-    fn reaction(&mut self) -> Reaction {
-        let on = self.below(4) as u8;
-        let i = self.below(2) as u8 * 15;
-        let react = match self.below(4) {
-            0 => React::Set(i, self.operand()),
-            1 => React::Add(i, self.operand()),
-            _ => React::Up(self.below(4) as u8),
-        };
-        Reaction { on, react }
+fn any_reactions(numbers: &mut Numbers) -> [Reaction; 8] {
+    let up = React::Up(0);
+    let mut reactions = [Reaction { on: 0, react: up }; 8];
+    for reaction in reactions.iter_mut() {
+        *reaction = any_reaction(numbers);
     }
+    reactions
+}
 
-    fn reactions(&mut self) -> [Reaction; 8] {
-        let up = React::Up(0);
-        let mut reactions = [Reaction { on: 0, react: up }; 8];
-        for reaction in reactions.iter_mut() {
-            *reaction = self.reaction();
-        }
-        reactions
+/// A window in one of those before it, which are so many.
+fn any_window(numbers: &mut Numbers, before: u16) -> Win {
+    let parent = if before == 0 {
+        0
+    } else {
+        1 + numbers.below(before)
+    };
+    Win {
+        handle: u32::from(before) + 1,
+        parent: u32::from(parent),
+        x: numbers.below(8) as i16 - 2,
+        y: numbers.below(6) as i16 - 2,
+        w: 1 + numbers.below(30),
+        h: 1 + numbers.below(20),
+        shown: numbers.below(10) != 0,
+        class: numbers.below(4) as u8,
+        ..Win::default()
     }
+}
 
-    /// A window in one of those before it, which are so many.
-    fn window(&mut self, before: u16) -> Win {
-        let parent = if before == 0 {
-            0
-        } else {
-            1 + self.below(before)
-        };
-        Win {
-            handle: u32::from(before) + 1,
-            parent: u32::from(parent),
-            x: self.below(8) as i16 - 2,
-            y: self.below(6) as i16 - 2,
-            w: 1 + self.below(30),
-            h: 1 + self.below(20),
-            shown: self.below(10) != 0,
-            class: self.below(4) as u8,
-            ..Win::default()
-        }
+fn any_stack(numbers: &mut Numbers) -> [Win; 8] {
+    let mut stack = [Win::default(); 8];
+    for before in 0..8 {
+        stack[usize::from(before)] = any_window(numbers, before);
     }
+    stack
+}
 
-    fn stack(&mut self) -> [Win; 8] {
-        let mut stack = [Win::default(); 8];
-        for before in 0..8 {
-            stack[usize::from(before)] = self.window(before);
-        }
-        stack
-    }
-
-    fn values(&mut self) -> [i16; 16] {
-        let mut values = [0; 16];
-        values[usize::from(self.below(16))] = self.number();
-        values
-    }
+fn any_values(numbers: &mut Numbers) -> [i16; 16] {
+    let mut values = [0; 16];
+    values[usize::from(numbers.below(16))] = any_number(numbers);
+    values
 }
 
 /// Two stacks, of which the second is the plain program's.
@@ -153,11 +137,11 @@ impl Both {
     {
         let i = usize::from(numbers.below(8));
         if numbers.below(4) == 0 {
-            self.put(i, numbers.values(), screen);
+            self.put(i, any_values(numbers), screen);
         } else {
             let message = Message {
                 number: numbers.below(4) as u8,
-                argument: numbers.number(),
+                argument: any_number(numbers),
             };
             self.deliver(i, message, assets, classes, screen);
         }
@@ -165,17 +149,17 @@ impl Both {
 }
 
 /// How often, in so many steps, the two stacks differ, and how often a step changes something.
-fn outcomes(alloc: Global, seed: u32, steps: u32) -> Option<(u32, u32)> {
-    let mut numbers = Numbers { last: seed };
+fn outcomes(alloc: Global, seed: u64, steps: u32) -> Option<(u32, u32)> {
+    let mut numbers = Numbers::new(seed);
     let tables = [
-        numbers.reactions(),
-        numbers.reactions(),
-        numbers.reactions(),
+        any_reactions(&mut numbers),
+        any_reactions(&mut numbers),
+        any_reactions(&mut numbers),
     ];
     let classes = [&tables[0][..], &tables[1][..], &tables[2][..]];
     let assets = assets(alloc, classes)?;
     let screen = screen(24, 16);
-    let stack = numbers.stack();
+    let stack = any_stack(&mut numbers);
     let mut both = Both {
         stack,
         plain: stack,

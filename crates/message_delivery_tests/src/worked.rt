@@ -2,12 +2,13 @@
 
 ghost use Rattle.paint_ops.specs.Soundness.{IsSound};
 
-use crate::sound::{are_single, assets};
+use crate::sound::assets;
 use Operand::{Argument, Const};
 use React::{Add, Set, Up};
 use gfx_base::Rect;
 use messages::{deliver, put_values};
 use paint_ops::{Assets, Operand, React, Reaction};
+use samples::are_single;
 use scene::{Win, screen};
 
 /// The desktop adds the argument of 5 and hands on 5.

@@ -1,7 +1,10 @@
 //! What a reader answers to a viewer's bytes.
 
+ghost use Rattle.std.specs.Prelude.{◌<◌, ◌≤◌};
+
 use pixel_format::{Format, FormatFault};
 use rfb_msg::{Encoding, Message, Reader, Step, Why};
+use samples::Numbers;
 
 const VERSION: &[u8] = b"RFB 003.003\n";
 
@@ -298,39 +301,33 @@ fn long_texts_are_passed_over(rt: HostRuntime) {
     assert!(rt; texts_are_passed_over());
 }
 
-/// Numbers that look random, each made from the one before.
-fn next_number(last: u32) -> u32 {
-    last.wrapping_mul(1_103_515_245).wrapping_add(12_345)
-}
-
-/// Feeds a reader a thousand bytes below a bound that look random, and gives the last number of
-/// which one was made. `None` where a closed reader answers something else.
-fn feed_random(seed: u32, bound: u32) -> Option<u32> {
+/// Feeds a reader a thousand random bytes below a bound. Whether it answers the same once it is
+/// closed.
+fn stays_closed(numbers: &mut Numbers, bound: u16) -> bool
+    requires some { 0 < bound }
+    requires bytes { bound ≤ 256 }
+{
     let mut reader = greeted();
-    let mut number = seed;
     let mut closed = None;
     for _ in 0..1000 {
-        number = next_number(number);
-        let byte = ((number >> 16) % 256 % bound.max(1)) as u8;
+        let byte = numbers.below(bound) as u8;
         let why = why_closed(&mut reader, byte);
         if closed.is_some() && why != closed {
-            return None;
+            return false;
         }
         closed = why;
     }
-    Some(number)
+    true
 }
 
-/// Whether a million bytes that look random are read. Half of them are below 8, as the kinds of
-/// messages are.
+/// Whether a million random bytes are read. Half of them are below 8, as the kinds of messages are.
 fn are_read() -> bool {
-    let mut number = 1;
+    let mut numbers = Numbers::new(1);
     for round in 0..1000 {
         let bound = if round % 2 == 0 { 256 } else { 8 };
-        let Some(next) = feed_random(number, bound) else {
+        if !stays_closed(&mut numbers, bound) {
             return false;
-        };
-        number = next;
+        }
     }
     true
 }

@@ -3,28 +3,12 @@
 ghost use Rattle.std.specs.Prelude.{◌<◌};
 
 use crate::looks::{HEADER, Looks};
+use samples::Numbers;
 use std::alloc::{AllocError, Global};
 
 /// Calls name handles below this at first. One call in twelve makes a window, by and large, so
 /// there is a handle more after each twelve calls, and some of them name no window.
 const HANDLES: u16 = 10;
-
-/// Numbers that look random, each made from the one before.
-#[derive(Drop)]
-struct Numbers {
-    last: u32,
-}
-
-impl Numbers {
-    /// The next number, which is below `end`.
-    fn below(&mut self, end: u16) -> u16
-        requires { 0 < end }
-        ensures { result < end }
-    {
-        self.last = self.last.wrapping_mul(1_103_515_245).wrapping_add(12_345);
-        (self.last >> 16) as u16 % end
-    }
-}
 
 /// A place in a parent, which may lie off the screen.
 fn place(numbers: &mut Numbers) -> (i32, i32) {
@@ -158,7 +142,7 @@ fn look(alloc: Global, numbers: &mut Numbers, calls: u16, before: Looks) -> Opti
 /// What is seen of so many scripts, after what was seen before. `None` where memory runs out or a
 /// command fails.
 pub fn look_at_all(alloc: Global, scripts: u16, calls: u16, before: Looks) -> Option<Looks> {
-    let mut numbers = Numbers { last: 1 };
+    let mut numbers = Numbers::new(1);
     let mut looks = before;
     for _ in 0..scripts {
         looks = look(alloc, &mut numbers, calls, looks)?;

@@ -2,6 +2,7 @@
 //! siblings stand from bottom to top.
 
 use crate::counted::{Act, Counted};
+use samples::Numbers;
 use std::alloc::{AllocError, Global};
 use std::test::*;
 use win_tree::TreeRefused;
@@ -147,32 +148,18 @@ impl Plain {
     }
 }
 
-/// Numbers that look random.
-#[derive(Drop)]
-struct Numbers(u64);
-
-impl Numbers {
-    fn below(&mut self, n: u32) -> u32 {
-        self.0 = self
-            .0
-            .wrapping_mul(6364136223846793005)
-            .wrapping_add(1442695040888963407);
-        let high = u32::try_from(self.0 >> 33).unwrap_or(0);
-        high.checked_rem(n).unwrap_or(0)
-    }
-
-    /// A call on one of the handles up to the given one.
-    fn act(&mut self, most: u32) -> Act {
-        let h = self.below(most.wrapping_add(2));
-        let side = if self.below(20) == 0 { 0 } else { 1 };
-        match self.below(16) {
-            0..9 => Act::Create(h, side, 1),
-            9 => Act::Delete(h),
-            10 | 11 => Act::Top(h),
-            12 | 13 => Act::Bottom(h),
-            14 => Act::Resize(h, side, 4096),
-            _ => Act::Show(h, side == 0),
-        }
+/// A call on a handle up to the given one, or on the next.
+fn any_act(numbers: &mut Numbers, most: u32) -> Act {
+    let handles = most.min(1_000) as u16 + 2;
+    let h = u32::from(numbers.below(handles));
+    let side = if numbers.below(20) == 0 { 0 } else { 1 };
+    match numbers.below(16) {
+        0..9 => Act::Create(h, side, 1),
+        9 => Act::Delete(h),
+        10 | 11 => Act::Top(h),
+        12 | 13 => Act::Bottom(h),
+        14 => Act::Resize(h, side, 4096),
+        _ => Act::Show(h, side == 0),
     }
 }
 
@@ -180,10 +167,10 @@ impl Numbers {
 fn wrong_answers(alloc: Global, seed: u64, calls: u32) -> Result<u32, Fail> {
     let mut tree = Counted::open(alloc)?;
     let mut plain = Plain::open(alloc)?;
-    let mut numbers = Numbers(seed);
+    let mut numbers = Numbers::new(seed);
     let mut wrong = 0u32;
     for _ in 0..calls {
-        let act = numbers.act(plain.next);
+        let act = any_act(&mut numbers, plain.next);
         let answer = plain.perform(alloc, act)?;
         let mut order = Vec::new(alloc);
         plain.list(0, 9, &mut order)?;
@@ -196,7 +183,7 @@ fn wrong_answers(alloc: Global, seed: u64, calls: u32) -> Result<u32, Fail> {
 
 #[test]
 fn random_calls_do_what_a_plain_program_does(rt: HostRuntime) -> Result<(), Fail> {
-    for seed in 0..20u64 {
+    for seed in 0..20 {
         assert_eq!(rt; wrong_answers(rt.alloc(), seed, 300)?, 0, "seed {seed}");
     }
     Ok(())

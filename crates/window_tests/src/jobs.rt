@@ -4,92 +4,80 @@
 ghost use Rattle.std.specs.Prelude.{◌<◌};
 ghost use Rattle.paint_ops.specs.Soundness.{IsSound};
 
-use crate::painter::{are_paintable, are_single, assets, win, with_value};
+use crate::painter::{assets, win, with_value};
 use exec_paint::job;
 use frame::Frame;
 use gfx_base::{Colour, Point, Rect, Tile, Tiles};
 use paint_ops::Assets;
+use samples::{Numbers, are_paintable, are_single};
 use scene::{Stack, Win, ground, paint_whole, screen};
 use std::alloc::Global;
 
-/// Numbers that look random, each made from the one before.
-#[derive(Drop)]
-struct Numbers {
-    last: u32,
+fn chance(numbers: &mut Numbers, one_in: u16) -> bool
+    requires { 0 < one_in }
+{
+    numbers.below(one_in) == 0
 }
 
-impl Numbers {
-    /// The next number, which is below `end`.
-    fn below(&mut self, end: u16) -> u16
-        requires { 0 < end }
-        ensures { result < end }
-    {
-        self.last = self.last.wrapping_mul(1_103_515_245).wrapping_add(12_345);
-        (self.last >> 16) as u16 % end
-    }
+/// A window that lies in the desktop or in one of the first windows, often partly outside.
+fn any_window(numbers: &mut Numbers, handle: u16) -> Win {
+    let levels = handle.clamp(2, 9) - 1;
+    let parent = if chance(numbers, 2) {
+        1
+    } else {
+        1 + numbers.below(levels)
+    };
+    let place = win(
+        u32::from(handle),
+        u32::from(parent),
+        numbers.below(40) as i16 - 10,
+        1,
+        0,
+    );
+    let sides = Win {
+        y: numbers.below(36) as i16 - 10,
+        w: 1 + numbers.below(24),
+        h: 1 + numbers.below(20),
+        class: numbers.below(4) as u8,
+        ..place
+    };
+    let look = Win {
+        shown: !chance(numbers, 8),
+        trans: chance(numbers, 6),
+        ..sides
+    };
+    with_value(numbers.below(24) as i16, look)
+}
 
-    fn chance(&mut self, one_in: u16) -> bool
-        requires { 0 < one_in }
-    {
-        self.below(one_in) == 0
+fn any_area(numbers: &mut Numbers) -> Rect {
+    let x0 = i32::from(numbers.below(44)) - 6;
+    let y0 = i32::from(numbers.below(40)) - 6;
+    Rect {
+        x0,
+        y0,
+        x1: x0 + i32::from(numbers.below(40)),
+        y1: y0 + i32::from(numbers.below(36)),
     }
+}
 
-    /// A window that lies in the desktop or in one of the first windows, often partly outside.
-    fn window(&mut self, handle: u16) -> Win {
-        let levels = handle.clamp(2, 9) - 1;
-        let parent = if self.chance(2) {
-            1
+/// So many windows, the desktop among them, of which the one at a random place is invalid.
+fn any_stack(numbers: &mut Numbers, count: u16) -> (Stack, usize) {
+    let which = if count == 0 { 0 } else { numbers.below(count) };
+    let mut stack = Stack::new();
+    for at in 0..count {
+        let place = if at == 0 {
+            desktop()
         } else {
-            1 + self.below(levels)
+            any_window(numbers, at + 1)
         };
-        let place = win(
-            u32::from(handle),
-            u32::from(parent),
-            self.below(40) as i16 - 10,
-            1,
-            0,
-        );
-        let sides = Win {
-            y: self.below(36) as i16 - 10,
-            w: 1 + self.below(24),
-            h: 1 + self.below(20),
-            class: self.below(4) as u8,
-            ..place
+        let invalid = if at == which {
+            Some(any_area(numbers))
+        } else {
+            None
         };
-        let look = Win {
-            shown: !self.chance(8),
-            trans: self.chance(6),
-            ..sides
-        };
-        with_value(self.below(24) as i16, look)
+        let _ = stack.try_push(Win { invalid, ..place });
     }
-
-    fn area(&mut self) -> Rect {
-        let x0 = i32::from(self.below(44)) - 6;
-        let y0 = i32::from(self.below(40)) - 6;
-        Rect {
-            x0,
-            y0,
-            x1: x0 + i32::from(self.below(40)),
-            y1: y0 + i32::from(self.below(36)),
-        }
-    }
-
-    /// So many windows, the desktop among them, of which the one at a random place is invalid.
-    fn stack(&mut self, count: u16) -> (Stack, usize) {
-        let which = if count == 0 { 0 } else { self.below(count) };
-        let mut stack = Stack::new();
-        for at in 0..count {
-            let place = if at == 0 {
-                desktop()
-            } else {
-                self.window(at + 1)
-            };
-            let invalid = if at == which { Some(self.area()) } else { None };
-            let _ = stack.try_push(Win { invalid, ..place });
-        }
-        (stack, usize::from(which))
-    }
+    (stack, usize::from(which))
 }
 
 fn desktop() -> Win {
@@ -232,10 +220,10 @@ fn wrong_in_job(
 fn jobs_in_random_stacks(rt: HostRuntime) {
     let alloc = rt.alloc();
     let assets = assets(alloc);
-    for seed in 0..20u32 {
-        let mut numbers = Numbers { last: seed };
+    for seed in 0..20 {
+        let mut numbers = Numbers::new(seed);
         for count in [1u16, 2, 3, 5, 9, 16, 40, 256] {
-            let (stack, which) = numbers.stack(count);
+            let (stack, which) = any_stack(&mut numbers, count);
             let wrong = match &assets {
                 Some(assets) => wrong_in_job(alloc, &stack, which, assets, (30, 33)),
                 None => None,

@@ -1,15 +1,13 @@
 //! Small pictures of windows with operations, and of windows that can be seen through.
 
-ghost use Rattle.std.specs.Prelude.{◌≡◌, ◌≤◌, [], ◌∷◌, length, true, IfSome};
-ghost use Rattle.std.specs.List.{AllByRecursion};
+ghost use Rattle.std.specs.Prelude.{IfSome};
 ghost use Rattle.paint_ops.specs.Kinds.{Assets as Content};
-ghost use Rattle.paint_ops.specs.Soundness.{IsClass, IsNum, IsOperation, IsSound};
-ghost use Rattle.scene.specs.Looks.{IsPaintable};
-ghost use Rattle.scene.specs.Places.{AreSingle};
+ghost use Rattle.paint_ops.specs.Soundness.{IsNum, IsOperation, IsSound};
 
 use frame::Frame;
 use gfx_base::Colour;
-use paint_ops::{Assets, Base, Class, Num, Op};
+use paint_ops::{Assets, Base, Num, Op};
+use samples::{are_paintable, assets_of, class};
 use scene::{Win, paint_whole};
 use std::alloc::Global;
 
@@ -54,47 +52,15 @@ fn middle() -> Op
     Op::Fill(plain(1), plain(0), plain(2), plain(0), colour(WHITE))
 }
 
-fn class(alloc: Global, back: Option<Colour>, ops: &[Op]) -> Option<Class>
-    requires few { length ops.now ≤ 64 }
-    requires ops { (assets : Content) → AllByRecursion (IsOperation assets) ops.now }
-    ensures { IfSome result (λ class. (assets : Content) → IsClass assets class) }
-{
-    match Vec::from_slice(alloc, ops) {
-        Ok(ops) => Some(Class {
-            back,
-            ops,
-            reactions: Vec::new(alloc),
-        }),
-        Err(_) => None,
-    }
-}
-
-/// Assets of these classes alone.
-fn assets_of(alloc: Global, classes: [Class; 4]) -> Option<Assets>
-    requires few { length classes ≤ 64 }
-    requires classes { (assets : Content) → AllByRecursion (IsClass assets) classes }
-    ensures { IfSome result IsSound }
-{
-    match Vec::from_array(alloc, classes) {
-        Ok(classes) => Some(Assets {
-            classes,
-            fonts: Vec::new(alloc),
-            bitmaps: Vec::new(alloc),
-            strings: Vec::new(alloc),
-        }),
-        Err(_) => None,
-    }
-}
-
 /// Class 0 has no operation, class 1 a bar on green, class 2 a middle on nothing, and class 3 is
 /// blue.
 pub fn assets(alloc: Global) -> Option<Assets>
     ensures { IfSome result IsSound }
 {
-    let plain = class(alloc, Some(colour(BLACK)), &[])?;
-    let barred = class(alloc, Some(colour(GREEN)), &[bar()])?;
-    let overlay = class(alloc, None, &[middle()])?;
-    let blue = class(alloc, Some(colour(BLUE)), &[])?;
+    let plain = class(alloc, Some(colour(BLACK)), &[], &[])?;
+    let barred = class(alloc, Some(colour(GREEN)), &[bar()], &[])?;
+    let overlay = class(alloc, None, &[middle()], &[])?;
+    let blue = class(alloc, Some(colour(BLUE)), &[], &[])?;
     assets_of(alloc, [plain, barred, overlay, blue])
 }
 
@@ -115,39 +81,6 @@ pub fn with_value(value: i16, w: Win) -> Win {
     let mut values = w.values;
     values[0] = value;
     Win { values, ..w }
-}
-
-fn is_paintable(w: &Win, assets: &Assets) -> bool
-    ensures { result ≡ true → IsPaintable assets.now w.now }
-{
-    w.w <= 4096 && w.h <= 4096 && usize::from(w.class) < assets.classes.len()
-}
-
-/// Whether the windows may be painted.
-pub fn are_paintable(stack: &[Win], assets: &Assets) -> bool
-    ensures { result ≡ true → AllByRecursion (IsPaintable assets.now) stack.now }
-{
-    for w in stack {
-        if !is_paintable(w, assets) {
-            return false;
-        }
-    }
-    true
-}
-
-/// Whether no handle stands twice: each is above those before it.
-pub fn are_single(stack: &[Win]) -> bool
-    ensures { result ≡ true → AreSingle stack.now }
-{
-    let mut next = u32::MAX;
-    for i in (0..stack.len()).rev() {
-        let handle = stack[i].handle;
-        if next <= handle {
-            return false;
-        }
-        next = handle;
-    }
-    true
 }
 
 /// Whether the painter makes a row of these four points of the windows.

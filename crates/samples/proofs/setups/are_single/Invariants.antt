@@ -1,7 +1,7 @@
 use Rattle.std.proofs.Common.{◌≤◌, drop}
 use Rattle.std.specs.List.{AllByRecursion}
 use Rattle.scene.specs.Places.{AreSingle}
-use Rattle.job_bench.proofs.are_single.Given as goal
+use Rattle.samples.proofs.setups.are_single.Given as goal
 
 abbrev pub invariant-loop-i : goal.invariant-loop-i
 invariant-loop-i l = record {

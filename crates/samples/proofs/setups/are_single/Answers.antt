@@ -2,7 +2,7 @@ use Rattle.std.proofs.Common.{◌≡◌, ◌+◌, ◌-◌, ◌<◌, ◌∷◌, l
 use Rattle.std.proofs.lemmas.List.{drop_more}
 use Rattle.scene.specs.Places.{no_window}
 use Rattle.scene.proofs.CallerLemmas.{AreSingle-rising}
-use Rattle.job_bench.proofs.are_single.Goals as goal
+use Rattle.samples.proofs.setups.are_single.Goals as goal
 
 pub loop-i-preserved : goal.loop-i-preserved
 loop-i-preserved c =

@@ -1,7 +1,0 @@
-use Rattle.std.proofs.Common.{take}
-use Rattle.std.specs.List.{All}
-use Rattle.scene.specs.Looks.{IsPaintable}
-use Rattle.job_bench.proofs.are_paintable.Given as goal
-
-abbrev pub invariant-loop-w : goal.invariant-loop-w
-invariant-loop-w l = All (IsPaintable l.assets) (take l.w-index l.stack)
