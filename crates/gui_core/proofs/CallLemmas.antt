@@ -102,6 +102,12 @@ pub answers : (m : Machine) (call : Call) (r : Result (Unit {0}) Refusal) (now :
 answers m call (Ok d) now new p does = done m call now new p.0 p.1 does
 answers m call (Err refusal) now new p does = refused m call refusal new p.0 p.1
 
+-- the same, told of the machine that the call found, and of the reply
+pub replied : (old m : Machine) (call : Call) (r : Result (Unit {0}) Refusal) (now : List Win) (new : Scene) (reply : Reply) → m ≡ old → reply ≡ answered r → Performs r (reason_of m call) now (scene_of m) new → ◌≡◌ {A = Step} (with_windows m.state now) (effect m.setup m.state call) → Takes old call (with_scene m new) reply
+replied old m call r now new reply is said p does =
+    subst (λ (a : Reply). Takes old call (with_scene m new) a) (sym said)
+    (subst (λ (k : Machine). Takes k call (with_scene m new) (answered r)) is (answers m call r now new p does))
+
 -- the same for a new window
 pub created_kept : (m : Machine) (parent : ℕ) (x y : ℤ) (w h class : ℕ) (r : Result ℕ Refusal) (new : Scene) → IsKept m → m.state.handles ≤ m.made → Creates r (reason_of m (Create parent x y w h class)) (made_windows m parent x y w h class) (scene_of m) new → IsKept (with_scene m new)
 created_kept m parent x y w h class (Ok handle) new kept few p =

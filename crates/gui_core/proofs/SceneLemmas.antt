@@ -7,7 +7,7 @@ use Rattle.std.proofs.lemmas.Option.{same_Some, slice_get-get_or}
 use Rattle.std.proofs.lemmas.List.Quantifiers.{position-Some}
 use Rattle.gfx_base.specs.declared.rect.Rect.{Rect}
 use Rattle.scene.specs.declared.win.Win.{Win}
-use Rattle.scene.specs.Places.{window_of, no_window}
+use Rattle.scene.specs.Places.{window_of, no_window, AreSingle}
 use Rattle.scene.specs.Clips.{clip_in}
 use Rattle.scene.specs.Damage.{with_invalid, area_invalidated, areas_invalidated}
 use Rattle.scene.specs.Families.{window_changed, family_of, without_family, on_top_of, raised, lowered}
@@ -70,6 +70,12 @@ changed_alike h f g w ws (u ∷ us) is same found =
           rw at (ap (λ (v : Win). v ∷ window_changed h f us) (subst (λ (v : Win). f v ≡ g v) (sym here) same) ∙ ap (λ (vs : List Win). g u ∷ vs) later)
       | inr off ↦ rw off (ap (λ (vs : List Win). u ∷ vs) later)
     ]
+
+-- a window that is put in its place changed is changed by its handle
+pub put_changed : (h : ℕ) (change : Win → Win) (w : Win) (ws : List Win) → window_of ws h ≡ Some w → AreSingle ws → window_changed w.handle (λ u. change w) ws ≡ window_changed h change ws
+put_changed h change w ws is single =
+    ap (λ k. window_changed k (λ u. change w) ws) (found_handle ws h w is)
+    ∙ changed_alike h (λ u. change w) change w ws ws is refl (all_found ws single)
 
 -- what holds of all windows holds of all after the change, where it holds of the one that is changed
 all_changed : (P : Win → Type 0) (h : ℕ) (f : Win → Win) (ws us : List Win) → ((w : Win) → window_of ws h ≡ Some w → P (f w)) → AreFound ws us → AllByRecursion P us → AllByRecursion P (window_changed h f us)

@@ -1,11 +1,9 @@
-use Rattle.std.proofs.Common.{◌≡◌, List, Some, sym, ap, refl, ◌∙◌}
+use Rattle.std.proofs.Common.{◌≡◌, List, Some, sym, ap, ◌∙◌}
 use Rattle.scene.specs.declared.win.Win.{Win}
 use Rattle.scene.specs.Places.{window_of}
-use Rattle.scene.specs.Families.{window_changed}
-use Rattle.scene.proofs.CallerLemmas.{all_found}
 use Rattle.win_tree.specs.Trees.{Scene}
 use Rattle.gui_core.specs.Windows.{with_trans}
-use Rattle.gui_core.proofs.SceneLemmas.{changed_alike, found_handle}
+use Rattle.gui_core.proofs.SceneLemmas.{put_changed}
 use Rattle.gui_core.proofs.ToldLemmas.{trans_reason, trans_replaces}
 use Rattle.gui_core.proofs.change.set_trans.Goals as goal
 
@@ -17,9 +15,5 @@ returns c =
     let ws = c.args.tree.now.windows in
     let w = c.in-Some.win.now in
     let live : window_of ws c.args.h ≡ Some w = sym c.in-Some.ensures.found in
-    let handle : w.handle ≡ c.args.h = found_handle ws c.args.h w live in
     let scene : List Win → Scene = λ vs. record { windows = vs; handles = c.args.tree.now.handles } in
-    let lists : window_changed w.handle (λ u. with_trans c.args.trans w) ws ≡ window_changed c.args.h (with_trans c.args.trans) ws =
-    ap (λ k. window_changed k (λ u. with_trans c.args.trans w) ws) handle
-    ∙ changed_alike c.args.h (λ u. with_trans c.args.trans w) (with_trans c.args.trans) w ws ws live refl (all_found ws c.requires.single) in
-    (trans_reason ws c.args.h w live c.if-h-eq-DESKTOP.false, c.put.ensures ∙ ap scene lists)
+    (trans_reason ws c.args.h w live c.if-h-eq-DESKTOP.false, c.put.ensures ∙ ap scene (put_changed c.args.h (with_trans c.args.trans) w ws live c.requires.single))

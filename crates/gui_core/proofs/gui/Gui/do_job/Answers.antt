@@ -5,16 +5,12 @@ use Rattle.gui_core.specs.Jobs.{picture_after_job}
 use Rattle.gui_core.specs.Machines.{Machine}
 use Rattle.gui_core.proofs.JobLemmas.{job_shows}
 use Rattle.gui_core.proofs.KeptLemmas.{kept-job}
+use Rattle.gui_core.specs.contracts.gui.Gui.{the_view}
 use Rattle.gui_core.proofs.gui.Gui.do_job.Goals as goal
 
 -- the core as it was
 abbrev before : goal.After-make_valid → Machine
-before c = record {
-  setup = record { config = c.self.inside.config; assets = c.self.inside.assets };
-  state = record { windows = c.self.inside.windows.windows; handles = c.self.inside.windows.handles; shown = c.self.inside.shown.picture };
-  made = c.self.inside.made;
-  refused = c.self.inside.refused;
-}
+before c = the_view c.self.inside
 
 shown_is : (c : goal.After-make_valid) → c.job.new.target.picture ≡ picture_after_job (before c).setup c.self.inside.windows.windows c.self.inside.shown.picture
 shown_is c =
