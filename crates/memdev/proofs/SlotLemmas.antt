@@ -10,7 +10,7 @@ use Rattle.std.proofs.lemmas.List.Edits.{length-remove}
 use Rattle.frame.specs.Canvases.{Canvas}
 use Rattle.memdev.specs.declared.device.Device.{Device}
 use Rattle.memdev.specs.Devices.{frame_of, without, with_frame, Rise}
-use Rattle.memdev.specs.Slots.{has_handle, frame_in, drawn_in, live_in, IsPlaceOf, AreKept}
+use Rattle.memdev.specs.Slots.{is_slot_of, frame_in, drawn_in, live_in, IsPlaceOf, AreKept}
 use Rattle.memdev.proofs.TableLemmas.{is_same, is_other, same_of, without-below, with_frame-below, length-with_frame, Rise-without, Rise-with_frame, Rise-append}
 
 -- ---- finding a place
@@ -19,23 +19,23 @@ absent_step : (b : Bool) (i : ℕ) (rest : Option ℕ) (here there : Option Canv
 absent_step true i rest here there later none = absurd (none-some i (sym none))
 absent_step false i rest here there later none = later none
 
-absent_from : (handle i : ℕ) (slots : List (Option Device)) → position_from (has_handle handle) i slots ≡ None → frame_of (live_in slots) handle ≡ None
+absent_from : (handle i : ℕ) (slots : List (Option Device)) → position_from (is_slot_of handle) i slots ≡ None → frame_of (live_in slots) handle ≡ None
 absent_from handle i [] none = refl
 absent_from handle i (None ∷ slots) none = absent_from handle (i + 1) slots none
 absent_from handle i (Some x ∷ slots) none =
     absent_step (x.handle == handle) i _ _ _ (absent_from handle (i + 1) slots) none
 
-pub absent-position : (handle : ℕ) (slots : List (Option Device)) → position (has_handle handle) slots ≡ None → frame_of (live_in slots) handle ≡ None
+pub absent-position : (handle : ℕ) (slots : List (Option Device)) → position (is_slot_of handle) slots ≡ None → frame_of (live_in slots) handle ≡ None
 absent-position handle slots none =
-    absent_from handle 0 slots (sym (position_from-zero (has_handle handle) slots) ∙ none)
+    absent_from handle 0 slots (sym (position_from-zero (is_slot_of handle) slots) ∙ none)
 
-passes : (handle at : ℕ) (slots : List (Option Device)) (slot : Option Device) → slice_get slots at ≡ Some slot → has_handle handle slot ≡ true → IsPlaceOf slots handle at
+passes : (handle at : ℕ) (slots : List (Option Device)) (slot : Option Device) → slice_get slots at ≡ Some slot → is_slot_of handle slot ≡ true → IsPlaceOf slots handle at
 passes handle at slots None here pass = absurd (let bad : false ≡ true = pass in cc)
 passes handle at slots (Some x) here pass = (x, here, same_of x.handle handle pass)
 
-pub found-position : (handle at : ℕ) (slots : List (Option Device)) → position (has_handle handle) slots ≡ Some at → IsPlaceOf slots handle at
+pub found-position : (handle at : ℕ) (slots : List (Option Device)) → position (is_slot_of handle) slots ≡ Some at → IsPlaceOf slots handle at
 found-position handle at slots found =
-    let first = position-Some (has_handle handle) slots at None found in
+    let first = position-Some (is_slot_of handle) slots at None found in
     passes handle at slots (get_or slots at None) (slice_get-get_or slots at None first.0) first.1
 
 -- ---- the device at a place
@@ -109,11 +109,11 @@ live_in-append (Some y ∷ slots) x = ap (λ rest. y ∷ rest) (live_in-append s
 
 -- ---- what the search for a place answers
 
-pub absent_of : (handle : ℕ) (slots : List (Option Device)) (found : Option ℕ) → found ≡ position (has_handle handle) slots → IfNone found (frame_of (live_in slots) handle ≡ None)
+pub absent_of : (handle : ℕ) (slots : List (Option Device)) (found : Option ℕ) → found ≡ position (is_slot_of handle) slots → IfNone found (frame_of (live_in slots) handle ≡ None)
 absent_of handle slots None is = absent-position handle slots (sym is)
 absent_of handle slots (Some at) is = tt
 
-pub found_of : (handle : ℕ) (slots : List (Option Device)) (found : Option ℕ) → found ≡ position (has_handle handle) slots → IfSome found (IsPlaceOf slots handle)
+pub found_of : (handle : ℕ) (slots : List (Option Device)) (found : Option ℕ) → found ≡ position (is_slot_of handle) slots → IfSome found (IsPlaceOf slots handle)
 found_of handle slots None is = tt
 found_of handle slots (Some at) is = found-position handle at slots (sym is)
 

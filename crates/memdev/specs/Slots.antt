@@ -4,9 +4,9 @@ use Rattle.frame.specs.Canvases.{Canvas}
 use Rattle.memdev.specs.declared.device.Device.{Device}
 use Rattle.memdev.specs.Devices.{Rise}
 
-abbrev pub has_handle : ℕ → Option Device → Bool
-has_handle handle None = false
-has_handle handle (Some x) = x.handle == handle
+abbrev pub is_slot_of : ℕ → Option Device → Bool
+is_slot_of handle None = false
+is_slot_of handle (Some x) = x.handle == handle
 
 abbrev pub frame_in : Option Device → Option Canvas
 frame_in None = None

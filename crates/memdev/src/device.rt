@@ -5,7 +5,7 @@ ghost use Rattle.std.specs.List.{position};
 ghost use Rattle.std.specs.Borrow.{sem};
 ghost use Rattle.memdev.specs.Frames.{filled};
 ghost use Rattle.memdev.specs.Devices.{frame_of};
-ghost use Rattle.memdev.specs.Slots.{has_handle, frame_in, live_in, IsPlaceOf};
+ghost use Rattle.memdev.specs.Slots.{is_slot_of, frame_in, live_in, IsPlaceOf};
 ghost use Rattle.memdev.specs.Lending.{LendsFrameIn};
 
 use frame::Frame;
@@ -32,8 +32,8 @@ pub(crate) fn new_frame(alloc: Global, w: u16, h: u16, colour: Colour) -> Result
     Ok(frame)
 }
 
-fn has_handle(slot: &Option<Device>, handle: u32) -> bool
-    ensures { result ≡ has_handle handle slot.now }
+fn is_slot_of(slot: &Option<Device>, handle: u32) -> bool
+    ensures { result ≡ is_slot_of handle slot.now }
 {
     match slot {
         Some(device) => device.handle == handle,
@@ -43,9 +43,9 @@ fn has_handle(slot: &Option<Device>, handle: u32) -> bool
 
 /// The first place whose device has the handle.
 fn first_place(slots: &[Option<Device>], handle: u32) -> Option<usize>
-    ensures { result ≡ position (has_handle handle) slots.now }
+    ensures { result ≡ position (is_slot_of handle) slots.now }
 {
-    slots.iter().position(|slot| has_handle(slot, handle))
+    slots.iter().position(|slot| is_slot_of(slot, handle))
 }
 
 /// The place of the device that has the handle, if there is one.

@@ -3,7 +3,7 @@ ghost use Rattle.std.specs.Option.{option_copied_mut};
 ghost use Rattle.std.specs.Borrow.{sem};
 ghost use Rattle.memdev.specs.declared.refused.DevRefused.TheVariants as DevRefused;
 ghost use Rattle.memdev.specs.Frames.{filled};
-ghost use Rattle.memdev.specs.Refusals.{is_bad_size, refusal_of_create};
+ghost use Rattle.memdev.specs.Refusals.{is_bad_device_size, refusal_of_create};
 
 use crate::device::{Device, frame_in, frame_in_mut, new_frame, place};
 use crate::refused::DevRefused;
@@ -39,8 +39,8 @@ impl Model for Devices {
 }
 
 /// Whether no device can have these sides.
-fn is_bad_size(w: u16, h: u16) -> bool
-    ensures { result ≡ is_bad_size w h }
+fn is_bad_device_size(w: u16, h: u16) -> bool
+    ensures { result ≡ is_bad_device_size w h }
 {
     w == 0 || h == 0 || w > 1024 || h > 768
 }
@@ -73,7 +73,7 @@ impl Devices {
         ensures handle { IfOk result (λ handle. handle ≡ self.old.handles + 1) }
         ensures created { OnOk result (self.new ≡ with_device self.old (filled w h back)) }
     {
-        if is_bad_size(w, h) {
+        if is_bad_device_size(w, h) {
             return Err(DevRefused::BadSize);
         }
         if self.slots.is_full() {
