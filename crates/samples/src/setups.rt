@@ -1,6 +1,6 @@
 //! Windows and what they paint with.
 
-ghost use Rattle.std.specs.Prelude.{◌≡◌, ◌≤◌, length, true, IfSome};
+ghost use Rattle.std.specs.Prelude.{◌≡◌, ◌<◌, ◌≤◌, ◌↔◌, [], length, All, AllPairs, IfSome, IsTrue};
 ghost use Rattle.std.specs.List.{AllByRecursion};
 ghost use Rattle.paint_ops.specs.declared.class.Reaction.{Reaction as Reacting};
 ghost use Rattle.paint_ops.specs.Kinds.{Assets as Content};
@@ -13,7 +13,8 @@ use paint_ops::{Assets, Class, Op, Reaction};
 use scene::Win;
 use std::alloc::Global;
 
-/// A class whose operations name no fonts, bitmaps and strings. `None` where memory runs out.
+/// A class of these, whose operations name no fonts, bitmaps and strings. `None` where memory runs
+/// out.
 pub fn class(
     alloc: Global,
     back: Option<Colour>,
@@ -24,7 +25,9 @@ pub fn class(
     requires few_reactions { length reactions.now ≤ 16 }
     requires ops { (assets : Content) → AllByRecursion (IsOperation assets) ops.now }
     requires reactions { AllByRecursion (λ (r : Reacting). IsReact r.react) reactions.now }
-    ensures { IfSome result (λ class. (assets : Content) → IsClass assets class) }
+    ensures value { IfSome result (λ class.
+        class ≡ record { back = back; ops = ops.now; reactions = reactions.now }) }
+    ensures sound { IfSome result (λ class. (assets : Content) → IsClass assets class) }
 {
     let Ok(ops) = Vec::from_slice(alloc, ops) else {
         return None;
@@ -43,7 +46,9 @@ pub fn class(
 pub fn assets_of<const N: usize>(alloc: Global, classes: [Class; N]) -> Option<Assets>
     requires few { length classes ≤ 64 }
     requires classes { (assets : Content) → AllByRecursion (IsClass assets) classes }
-    ensures { IfSome result IsSound }
+    ensures value { IfSome result (λ assets.
+        assets ≡ record { classes = classes.entry; fonts = []; bitmaps = []; strings = [] }) }
+    ensures sound { IfSome result IsSound }
 {
     match Vec::from_array(alloc, classes) {
         Ok(classes) => Some(Assets {
@@ -57,14 +62,14 @@ pub fn assets_of<const N: usize>(alloc: Global, classes: [Class; N]) -> Option<A
 }
 
 fn is_paintable(w: &Win, assets: &Assets) -> bool
-    ensures { result ≡ true → IsPaintable assets.now w.now }
+    ensures { IsTrue result ↔ IsPaintable assets.now w.now }
 {
     w.w <= 4096 && w.h <= 4096 && usize::from(w.class) < assets.classes.len()
 }
 
 /// Whether the windows may be painted.
 pub fn are_paintable(stack: &[Win], assets: &Assets) -> bool
-    ensures { result ≡ true → AllByRecursion (IsPaintable assets.now) stack.now }
+    ensures { IsTrue result ↔ AllByRecursion (IsPaintable assets.now) stack.now }
 {
     for w in stack {
         if !is_paintable(w, assets) {
@@ -74,9 +79,11 @@ pub fn are_paintable(stack: &[Win], assets: &Assets) -> bool
     true
 }
 
-/// Whether no handle stands twice: each is above those before it.
+/// Whether each handle is above those before it and below `u32::MAX`, so that none stands twice.
 pub fn are_single(stack: &[Win]) -> bool
-    ensures { result ≡ true → AreSingle stack.now }
+    ensures single { IsTrue result → AreSingle stack.now }
+    ensures rising { IsTrue result ↔ (AllPairs (λ v w. v.handle < w.handle) stack.now
+        × All (λ w. w.handle < u32.MAX) stack.now) }
 {
     let mut next = u32::MAX;
     for i in (0..stack.len()).rev() {

@@ -5,8 +5,8 @@ use Rattle.paint_ops.specs.declared.class.Reaction.{Reaction}
 use Rattle.paint_ops.specs.Soundness.{IsOperation, IsReact}
 use Rattle.samples.proofs.setups.class.Goals as goal
 
-pub returns : goal.returns
-returns c = λ assets.
+pub returns-clause-sound : goal.returns-clause-sound
+returns-clause-sound c = λ assets.
     let ops = sym c.in-Ok.ensures.items in
     let reactions = sym c.in-Ok-from_slice.ensures.items in
     record {
