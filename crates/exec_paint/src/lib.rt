@@ -9,3 +9,7 @@ mod row;
 mod run;
 
 pub use area::job;
+pub use layer::window_of;
+pub use plan::{Hole, add_hole, covers, is_opaque, meets};
+pub use row::{RowPlan, add_tiles, plan_row};
+pub use run::unsigned;

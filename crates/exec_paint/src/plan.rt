@@ -49,7 +49,7 @@ ghost use Rattle.exec_paint.specs.Areas.{LiesInWindow};
 ghost use Rattle.exec_paint.specs.Plans.{PaintTo, HideTo};
 
 /// Whether nothing behind the window can be seen through it.
-fn is_opaque(window: &Win, assets: &Assets) -> bool
+pub fn is_opaque(window: &Win, assets: &Assets) -> bool
     requires { window.now.class < length assets.now.classes }
     ensures { result ≡ is_opaque assets.now window.now }
 {
@@ -65,7 +65,7 @@ fn lies_in(low: i32, high: i32, a: i32, b: i32) -> bool
 }
 
 /// Whether all points of the area lie in the clip, by their corners.
-fn covers(clip: &Rect, area: &Rect) -> bool
+pub fn covers(clip: &Rect, area: &Rect) -> bool
     ensures { result
         ≡ (int_le clip.now.x0 area.now.x0 && int_le area.now.x1 clip.now.x1
         && (int_le clip.now.y0 area.now.y0 && int_le area.now.y1 clip.now.y1)) }
@@ -74,7 +74,7 @@ fn covers(clip: &Rect, area: &Rect) -> bool
 }
 
 /// Whether some point of the area lies in the clip.
-fn meets(clip: &Rect, area: &Rect) -> bool
+pub fn meets(clip: &Rect, area: &Rect) -> bool
     ensures { result ≡ false → (p : Place) → has area.now p ≡ true → has clip.now p ≡ false }
 {
     !area.meet(clip).is_empty()
@@ -111,7 +111,7 @@ fn add_layer<const N: usize>(
 }
 
 /// Adds a clip to the holes. `None` where they have no room.
-fn add_hole<const N: usize>(clip: &Rect, holes: &mut ArrayVec<Hole, N>) -> Option<()>
+pub fn add_hole<const N: usize>(clip: &Rect, holes: &mut ArrayVec<Hole, N>) -> Option<()>
     ensures room { array_vec_len holes.old < N → IsSome result }
     ensures holes { OnSome result (holes.new.items
         ≡ holes.old.items ++ record { clip = clip.now } ∷ []) }
