@@ -2,7 +2,7 @@
 use Rattle.std.specs.Prelude.{ℕ, ◌≤◌, List, [], ◌∷◌, length, Option, Some, None, ◌==◌, if◌then◌else◌, find, bytes_eq, codes}
 use Rattle.std.specs.Fmt.{decimal}
 use Rattle.spelling.specs.Words.{◌>>=◌, first_word, natural_at, text_of_words}
-use Rattle.spelling.specs.Fields.{Field, Natural, Number, Choice, Makes, Values, taking, texts_of, AreIn, read_fields}
+use Rattle.spelling.specs.Fields.{Field, Natural, Number, Colour, Choice, Makes, Values, taking, texts_of, AreIn, read_fields}
 use Rattle.calls.specs.declared.word.Word.{Word}
 use Rattle.calls.specs.declared.word.Word.TheVariants as word
 use Rattle.calls.specs.declared.call.Call.{Call}
@@ -27,6 +27,10 @@ byte = Natural 0 255
 -- 0 for no and 1 for yes
 abbrev pub flag : Field
 flag = Choice (codes "0") (codes "1")
+
+-- whether text hides what is behind it, or leaves it as it is
+abbrev pub text_mode : Field
+text_mode = Choice (codes "normal") (codes "trans")
 
 -- ---- the table
 
@@ -58,6 +62,13 @@ row_of word.SetClass = row (codes "set_class") (handle ∷ byte ∷ []) call.Set
 row_of word.SetTrans = row (codes "set_trans") (handle ∷ flag ∷ []) call.SetTrans
 row_of word.SetValue = row (codes "set_value") (handle ∷ byte ∷ Number ∷ []) call.SetValue
 row_of word.Send = row (codes "send") (handle ∷ byte ∷ Number ∷ []) call.Send
+row_of word.Select = row (codes "select") (handle ∷ []) call.Select
+row_of word.Colour = row (codes "colour") (Colour ∷ []) call.Colour
+row_of word.BkColour = row (codes "bk_colour") (Colour ∷ []) call.BkColour
+row_of word.TextMode = row (codes "text_mode") (text_mode ∷ []) call.TextMode
+row_of word.Font = row (codes "font") (byte ∷ []) call.Font
+row_of word.Save = row (codes "save") [] call.Save
+row_of word.Restore = row (codes "restore") [] call.Restore
 row_of word.Invalidate = row (codes "invalidate") (handle ∷ []) call.Invalidate
 row_of word.InvalidateRect =
     row (codes "invalidate_rect") (handle ∷ Number ∷ Number ∷ Number ∷ Number ∷ [])
@@ -76,8 +87,9 @@ abbrev pub all_words : List Word
 all_words =
     word.Create ∷ word.Delete ∷ word.MoveTo ∷ word.MoveBy ∷ word.Resize ∷ word.Show ∷ word.Hide
     ∷ word.ToTop ∷ word.ToBottom ∷ word.SetClass ∷ word.SetTrans ∷ word.SetValue ∷ word.Send
-    ∷ word.Invalidate ∷ word.InvalidateRect ∷ word.InvalidateArea ∷ word.Exec ∷ word.Exec1
-    ∷ word.Scan ∷ []
+    ∷ word.Select ∷ word.Colour ∷ word.BkColour ∷ word.TextMode ∷ word.Font ∷ word.Save
+    ∷ word.Restore ∷ word.Invalidate ∷ word.InvalidateRect ∷ word.InvalidateArea ∷ word.Exec
+    ∷ word.Exec1 ∷ word.Scan ∷ []
 
 -- ---- the text of a call line
 
@@ -103,6 +115,13 @@ said (call.SetClass h class) = say word.SetClass h class
 said (call.SetTrans h trans) = say word.SetTrans h trans
 said (call.SetValue h index value) = say word.SetValue h index value
 said (call.Send h message argument) = say word.Send h message argument
+said (call.Select h) = say word.Select h
+said (call.Colour c) = say word.Colour c
+said (call.BkColour c) = say word.BkColour c
+said (call.TextMode trans) = say word.TextMode trans
+said (call.Font font) = say word.Font font
+said call.Save = say word.Save
+said call.Restore = say word.Restore
 said (call.Invalidate h) = say word.Invalidate h
 said (call.InvalidateRect h x0 y0 x1 y1) = say word.InvalidateRect h x0 y0 x1 y1
 said (call.InvalidateArea x0 y0 x1 y1) = say word.InvalidateArea x0 y0 x1 y1

@@ -1,8 +1,11 @@
 ghost use Rattle.std.specs.Prelude.{◌≡◌};
 ghost use Rattle.calls.specs.Actors.{fits};
 
+use gfx_base::Colour;
+
 /// A call of the core. A window is named by its handle. Places, sides and differences are in
-/// points; a window's place is told from its parent's upper left corner.
+/// points; a window's place is told from its parent's upper left corner. A task's context is what
+/// it draws with.
 #[derive(Clone, Copy, Debug, PartialEq, Eq)]
 pub enum Call {
     /// Makes a window in its parent, on top of the parent's children, of the class of this number.
@@ -74,6 +77,30 @@ pub enum Call {
         message: u8,
         argument: i16,
     },
+    /// Selects the window that the task draws in.
+    Select {
+        h: u32,
+    },
+    /// Gives the task's context a colour to draw with.
+    Colour {
+        c: Colour,
+    },
+    /// Gives it a colour for what is behind text.
+    BkColour {
+        c: Colour,
+    },
+    /// Lets the points behind text stay as they are, or no longer.
+    TextMode {
+        trans: bool,
+    },
+    /// Gives it the font of this number.
+    Font {
+        font: u8,
+    },
+    /// Saves the task's context.
+    Save,
+    /// Gives the context back that the task saved last.
+    Restore,
     /// Makes all of a window invalid.
     Invalidate {
         h: u32,

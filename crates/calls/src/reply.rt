@@ -15,6 +15,12 @@ pub enum Refusal {
     NoClass(u8),
     /// A window has no value of this number, which is over 15.
     NoValue(u8),
+    /// There is no font of this number.
+    NoFont(u8),
+    /// The task has 8 contexts saved.
+    ContextDepth,
+    /// The task has no context saved.
+    NoContext,
 }
 
 /// What a call is answered.

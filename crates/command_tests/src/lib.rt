@@ -5,6 +5,8 @@
 #[cfg(test)]
 mod commands;
 #[cfg(test)]
+mod contexts;
+#[cfg(test)]
 mod session;
 #[cfg(test)]
 mod values;

@@ -85,7 +85,7 @@ fn windows_over_windows(rt: HostRuntime) -> Result<(), Fail> {
     for (name, first, second) in rows {
         let third = create(2, 0, 2, 6, 3);
         let calls = [
-            first,
+            first.copy(),
             Call::Exec,
             second,
             Call::Exec,

@@ -100,3 +100,4 @@ objections-bare classes ws (call.InvalidateArea x0 y0 x1 y1) = refl
 objections-bare classes ws call.Exec = refl
 objections-bare classes ws call.Exec1 = refl
 objections-bare classes ws call.Scan = refl
+objections-bare classes ws c = refl

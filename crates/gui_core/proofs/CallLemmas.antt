@@ -11,6 +11,7 @@ use Rattle.paint_ops.specs.declared.op.Op.{Op}
 use Rattle.paint_ops.specs.declared.op.Op.TheVariants as op
 use Rattle.paint_ops.specs.Kinds.{Class, Assets}
 use Rattle.paint_ops.specs.Soundness.{IsOperation, IsClass, IsSound}
+use Rattle.context.specs.Contexts.{Owned, first_contexts, owned_by}
 use Rattle.scene.specs.declared.win.Win.{Win}
 use Rattle.calls.specs.declared.config.Config.{Config}
 use Rattle.calls.specs.declared.call.Call.{Call}
@@ -23,31 +24,34 @@ use Rattle.scene.specs.Stacks.{has_ancestors, IsShallow}
 use Rattle.win_tree.specs.Trees.{Scene}
 use Rattle.gui_core.specs.Scenes.{IsScene}
 use Rattle.gui_core.specs.Windows.{after_change}
-use Rattle.gui_core.specs.Refusals.{Performs, Creates, answered}
+use Rattle.gui_core.specs.Refusals.{Performs, Creates, Alters, answered}
 use Rattle.gui_core.proofs.KeptLemmas.{kept-with, kept-windows}
 use Rattle.gui_core.proofs.SceneLemmas.{scene_after, scene_created}
 use Rattle.gui_core.proofs.EffectLemmas.{may_be_made, is_new}
 use Rattle.calls.specs.declared.call.Call.TheVariants.{Create}
 use Rattle.scene.specs.Families.{new_window, desktop_with, on_top_of}
-use Rattle.gui_core.specs.States.{State, Step, opening, objections, refusal_of, unless_refused, with_windows, effect, step_of_call, step, is_refused}
-use Rattle.gui_core.specs.Machines.{Machine, IsConfig, IsKept, Takes, Answers, starting}
+use Rattle.gui_core.specs.States.{State, Step, opening, is_context_call, objections, objections_to, refusal_of, unless_refused, with_windows, effect, effect_of, context_objections, context_after, step_of_call, step, is_refused}
+use Rattle.gui_core.specs.Machines.{Machine, IsConfig, IsKept, Takes, TakesAlike, Answers, starting}
 
 -- ---- one call
 
-pub refused_takes : (m : Machine) (call : Call) (refusal : Refusal) → refusal_of (objections (length m.setup.assets.classes) m.state.windows call) ≡ Some refusal → Takes m call m (Refused refusal)
-refused_takes m call refusal e = record { rest = refl; step = sym (ap (λ o. unless_refused o m.state (effect m.setup m.state call)) e) }
+pub refused_takes : (m : Machine) (actor : ℕ) (call : Call) (refusal : Refusal) → refusal_of (objections_to m.setup m.state actor call) ≡ Some refusal → Takes m actor call m (Refused refusal)
+refused_takes m actor call refusal e = record { rest = refl; step = sym (ap (λ o. unless_refused o m.state (effect_of m.setup m.state actor call)) e) }
 
-pub done_takes : (m new : Machine) (call : Call) (reply : Reply) (s : State) → refusal_of (objections (length m.setup.assets.classes) m.state.windows call) ≡ None → new ≡ record m { state = s } → ◌≡◌ {A = Step} (record { state = s; reply = reply }) (effect m.setup m.state call) → Takes m call new reply
-done_takes m new call reply s fine is done = record {
+pub done_takes : (m new : Machine) (actor : ℕ) (call : Call) (reply : Reply) (s : State) → refusal_of (objections_to m.setup m.state actor call) ≡ None → new ≡ record m { state = s } → ◌≡◌ {A = Step} (record { state = s; reply = reply }) (effect_of m.setup m.state actor call) → Takes m actor call new reply
+done_takes m new actor call reply s fine is done = record {
   rest = is ∙ ap (λ (t : State). record m { state = t }) (sym (ap (λ (k : Machine). k.state) is));
   step =
       ap (λ (k : Machine). record { state = k.state; reply = reply }) is
       ∙ done
-      ∙ sym (ap (λ o. unless_refused o m.state (effect m.setup m.state call)) fine);
+      ∙ sym (ap (λ o. unless_refused o m.state (effect_of m.setup m.state actor call)) fine);
 }
 
+pub taken_by : (old new : Machine) (actor : ℕ) (call asked : Call) (reply : Reply) → call ≡ asked → TakesAlike old asked new reply → Takes old actor call new reply
+taken_by old new actor call asked reply same alike = subst (λ (x : Call). Takes old actor x new reply) (sym same) (alike.by actor)
+
 -- a call that was counted, made, and counted once more where it was refused
-pub answered_by : (old counted taken new : Machine) (actor : ℕ) (call : Call) (reply : Reply) (n : ℕ) → counted ≡ record old { made = old.made + 1 } → Takes counted call taken reply → new ≡ record taken { refused = taken.refused + n } → n ≡ cond (is_refused reply) 1 0 → Answers old actor call new reply
+pub answered_by : (old counted taken new : Machine) (actor : ℕ) (call : Call) (reply : Reply) (n : ℕ) → counted ≡ record old { made = old.made + 1 } → Takes counted actor call taken reply → new ≡ record taken { refused = taken.refused + n } → n ≡ cond (is_refused reply) 1 0 → Answers old actor call new reply
 unfolding step
 answered_by old counted taken new actor call reply n once takes more count =
     let rest = takes.rest in
@@ -56,7 +60,7 @@ answered_by old counted taken new actor call reply n once takes more count =
       step =
           ap (λ (k : Machine). record { state = k.state; reply = reply }) more
           ∙ takes.step
-          ∙ ap (λ (k : Machine). step_of_call k.setup k.state call) once;
+          ∙ ap (λ (k : Machine). step_of_call k.setup k.state actor call) once;
       made = ap (λ (k : Machine). k.made) more ∙ ap (λ (k : Machine). k.made) rest ∙ ap (λ (k : Machine). k.made) once;
       refused = ap (λ (k : Machine). k.refused) more ∙ ap (λ (k : Machine). k.refused + n) rest ∙ ap (λ (k : Machine). k.refused + n) once ∙ ap (λ (k : ℕ). old.refused + k) count;
     }
@@ -77,9 +81,17 @@ with_scene m scene = record m { state = record m.state { windows = scene.windows
 abbrev pub scene_of : Machine → Scene
 scene_of m = record { windows = m.state.windows; handles = m.state.handles }
 
--- the first reason against a call
+-- the first reason against a call on windows
 abbrev pub reason_of : Machine → Call → Option Refusal
 reason_of m call = refusal_of (objections (length m.setup.assets.classes) m.state.windows call)
+
+-- the core with other contexts
+abbrev pub with_contexts : Machine → List Owned → Machine
+with_contexts m contexts = record m { state = record m.state { contexts = contexts } }
+
+-- the first reason against a task's call on its context
+abbrev pub context_reason : Machine → ℕ → Call → Option Refusal
+context_reason m task call = refusal_of (context_objections (length m.setup.assets.fonts) m.state.windows (owned_by m.state.contexts task) call)
 
 -- the windows with a new one
 abbrev pub made_windows : Machine → ℕ → ℤ → ℤ → ℕ → ℕ → ℕ → List Win
@@ -92,21 +104,40 @@ performed m call (Ok done) now new kept p scene =
     subst (λ (s : Scene). IsKept (with_scene m s)) (sym p.1) (kept-windows m now kept (scene p.0))
 performed m call (Err refusal) now new kept p scene = subst (λ (s : Scene). IsKept (with_scene m s)) (sym p.1) kept
 
-pub done : (m : Machine) (call : Call) (now : List Win) (new : Scene) → reason_of m call ≡ None → new ≡ record (scene_of m) { windows = now } → ◌≡◌ {A = Step} (with_windows m.state now) (effect m.setup m.state call) → Takes m call (with_scene m new) Done
-done m call now new fine is does = done_takes m (with_scene m new) call Done (record m.state { windows = now }) fine (ap (with_scene m) is) does
+-- a call on windows is made by any actor alike
+of_windows : (m : Machine) (actor : ℕ) (call : Call) → is_context_call call ≡ false → refusal_of (objections_to m.setup m.state actor call) ≡ reason_of m call
+of_windows m actor call other = rw other refl
 
-pub refused : (m : Machine) (call : Call) (refusal : Refusal) (new : Scene) → reason_of m call ≡ Some refusal → new ≡ scene_of m → Takes m call (with_scene m new) (Refused refusal)
-refused m call refusal new why is = subst (λ (s : Scene). Takes m call (with_scene m s) (Refused refusal)) (sym is) (refused_takes m call refusal why)
+does_to_windows : (m : Machine) (actor : ℕ) (call : Call) → is_context_call call ≡ false → effect_of m.setup m.state actor call ≡ effect m.setup m.state call
+does_to_windows m actor call other = rw other refl
 
-pub answers : (m : Machine) (call : Call) (r : Result (Unit {0}) Refusal) (now : List Win) (new : Scene) → Performs r (reason_of m call) now (scene_of m) new → ◌≡◌ {A = Step} (with_windows m.state now) (effect m.setup m.state call) → Takes m call (with_scene m new) (answered r)
-answers m call (Ok d) now new p does = done m call now new p.0 p.1 does
-answers m call (Err refusal) now new p does = refused m call refusal new p.0 p.1
+pub done : (m : Machine) (actor : ℕ) (call : Call) (now : List Win) (new : Scene) → is_context_call call ≡ false → reason_of m call ≡ None → new ≡ record (scene_of m) { windows = now } → ◌≡◌ {A = Step} (with_windows m.state now) (effect m.setup m.state call) → Takes m actor call (with_scene m new) Done
+done m actor call now new other fine is does = done_takes m (with_scene m new) actor call Done (record m.state { windows = now }) (of_windows m actor call other ∙ fine) (ap (with_scene m) is) (does ∙ sym (does_to_windows m actor call other))
+
+pub refused : (m : Machine) (actor : ℕ) (call : Call) (refusal : Refusal) (new : Scene) → is_context_call call ≡ false → reason_of m call ≡ Some refusal → new ≡ scene_of m → Takes m actor call (with_scene m new) (Refused refusal)
+refused m actor call refusal new other why is =
+    subst (λ (s : Scene). Takes m actor call (with_scene m s) (Refused refusal)) (sym is) (refused_takes m actor call refusal (of_windows m actor call other ∙ why))
+
+pub answers : (m : Machine) (actor : ℕ) (call : Call) (r : Result (Unit {0}) Refusal) (now : List Win) (new : Scene) → is_context_call call ≡ false → Performs r (reason_of m call) now (scene_of m) new → ◌≡◌ {A = Step} (with_windows m.state now) (effect m.setup m.state call) → Takes m actor call (with_scene m new) (answered r)
+answers m actor call (Ok d) now new other p does = done m actor call now new other p.0 p.1 does
+answers m actor call (Err refusal) now new other p does = refused m actor call refusal new other p.0 p.1
 
 -- the same, told of the machine that the call found, and of the reply
-pub replied : (old m : Machine) (call : Call) (r : Result (Unit {0}) Refusal) (now : List Win) (new : Scene) (reply : Reply) → m ≡ old → reply ≡ answered r → Performs r (reason_of m call) now (scene_of m) new → ◌≡◌ {A = Step} (with_windows m.state now) (effect m.setup m.state call) → Takes old call (with_scene m new) reply
-replied old m call r now new reply is said p does =
-    subst (λ (a : Reply). Takes old call (with_scene m new) a) (sym said)
-    (subst (λ (k : Machine). Takes k call (with_scene m new) (answered r)) is (answers m call r now new p does))
+pub replied : (old m : Machine) (actor : ℕ) (call : Call) (r : Result (Unit {0}) Refusal) (now : List Win) (new : Scene) (reply : Reply) → is_context_call call ≡ false → m ≡ old → reply ≡ answered r → Performs r (reason_of m call) now (scene_of m) new → ◌≡◌ {A = Step} (with_windows m.state now) (effect m.setup m.state call) → Takes old actor call (with_scene m new) reply
+replied old m actor call r now new reply other is said p does =
+    subst (λ (a : Reply). Takes old actor call (with_scene m new) a) (sym said)
+    (subst (λ (k : Machine). Takes k actor call (with_scene m new) (answered r)) is (answers m actor call r now new other p does))
+
+-- the same for a call on a context
+altered : (m : Machine) (task : ℕ) (call : Call) (r : Result (Unit {0}) Refusal) (new : List Owned) → is_context_call call ≡ true → Alters r (context_reason m task call) (context_after (owned_by m.state.contexts task) call) task m.state.contexts new → Takes m task call (with_contexts m new) (answered r)
+altered m task call (Ok d) new is p = done_takes m (with_contexts m new) task call Done (record m.state { contexts = new }) (rw is p.0) refl (rw (is, p.1) refl)
+altered m task call (Err refusal) new is p =
+    subst (λ (cs : List Owned). Takes m task call (with_contexts m cs) (Refused refusal)) (sym p.1) (refused_takes m task call refusal (rw is p.0))
+
+pub context_replied : (old m : Machine) (task : ℕ) (call : Call) (r : Result (Unit {0}) Refusal) (new : List Owned) (reply : Reply) → is_context_call call ≡ true → m ≡ old → reply ≡ answered r → Alters r (context_reason m task call) (context_after (owned_by m.state.contexts task) call) task m.state.contexts new → Takes old task call (with_contexts m new) reply
+context_replied old m task call r new reply is same said p =
+    subst (λ (a : Reply). Takes old task call (with_contexts m new) a) (sym said)
+    (subst (λ (k : Machine). Takes k task call (with_contexts m new) (answered r)) same (altered m task call r new is p))
 
 -- the same for a new window
 pub created_kept : (m : Machine) (parent : ℕ) (x y : ℤ) (w h class : ℕ) (r : Result ℕ Refusal) (new : Scene) → IsKept m → m.state.handles ≤ m.made → Creates r (reason_of m (Create parent x y w h class)) (made_windows m parent x y w h class) (scene_of m) new → IsKept (with_scene m new)
@@ -114,7 +145,7 @@ created_kept m parent x y w h class (Ok handle) new kept few p =
     let made = may_be_made (length m.setup.assets.classes) m.state.windows parent x y w h class p.0 in
     let is = is_new m.setup m.state.windows m.state.handles parent x y w h class kept.scene made in
     subst (λ (s : Scene). IsKept (with_scene m s)) (sym p.2)
-    (kept-with m (made_windows m parent x y w h class) (m.state.handles + 1) m.state.shown kept
+    (kept-with m (made_windows m parent x y w h class) (m.state.handles + 1) m.state.shown m.state.contexts kept
     (scene_after m.setup (m.state.handles + 1) (m.state.handles + 1) m.state.windows _ (scene_created m.setup m.state.windows m.state.handles (new_window (m.state.handles + 1) parent x y w h class) made.over' kept.scene is refl made.known))
     (omega arith) refl refl)
 created_kept m parent x y w h class (Err refusal) new kept few p = subst (λ (s : Scene). IsKept (with_scene m s)) (sym p.1) kept
@@ -213,6 +244,6 @@ black width height p is_width is_height is_black =
     let points = fill_by_all {X = ℕ} (λ (i : ℕ). 0) (replicate (height * width) 0) (height * width) 0 (length-replicate (height * width) 0) (λ k lt. get_or-replicate (height * width) k 0 0 lt) in
     rw (is_width, is_height, is_black, points) refl
 
-pub started : (given kept : Assets) (config : Config) (p : Picture) (windows : Scene) → kept ≡ assets_with_desktop config.desktop given → p ≡ picture_of config.w config.h (λ x y. 0) → windows ≡ record { windows = desktop_with config.w config.h (screen_with config.w config.h) ∷ []; handles = 1 }
-    → ◌≡◌ {A = Machine} (record { setup = record { config = config; assets = kept }; state = record { windows = windows.windows; handles = windows.handles; shown = p }; made = 0; refused = 0 }) (starting given config)
-started given kept config p windows assets picture is = rw (assets, picture, is) refl
+pub started : (given kept : Assets) (config : Config) (p : Picture) (windows : Scene) (contexts : List Owned) → kept ≡ assets_with_desktop config.desktop given → p ≡ picture_of config.w config.h (λ x y. 0) → windows ≡ record { windows = desktop_with config.w config.h (screen_with config.w config.h) ∷ []; handles = 1 } → contexts ≡ first_contexts
+    → ◌≡◌ {A = Machine} (record { setup = record { config = config; assets = kept }; state = record { windows = windows.windows; handles = windows.handles; shown = p; contexts = contexts }; made = 0; refused = 0 }) (starting given config)
+started given kept config p windows contexts assets picture is first = rw (assets, picture, is, first) refl

@@ -10,6 +10,7 @@ use Rattle.gfx_base.specs.declared.rect.Rect.{Rect}
 use Rattle.gfx_base.specs.Range.{is_within}
 use Rattle.gfx_base.specs.Rects.{has, is_empty, meet, point_at}
 use Rattle.gfx_base.proofs.CallerLemmas.{has-meet, cover-smallest}
+use Rattle.context.specs.Contexts.{Owned, owned_by}
 use Rattle.scene.specs.declared.win.Win.{Win}
 use Rattle.scene.specs.Places.{Place, window_of, place_at}
 use Rattle.scene.specs.Clips.{deepest_level, frame_of, clip_of, clip_in}
@@ -33,7 +34,7 @@ use Rattle.gui_core.specs.Windows.{moved_by, with_class, after_change, with_inva
 use Rattle.gui_core.specs.Changes.{list_after}
 use Rattle.invalidate.specs.Invalidation.{is_invalid, on_screen}
 use Rattle.gui_core.specs.Jobs.{jobs_of}
-use Rattle.gui_core.specs.States.{State, Step, latest, opening, objections, bad_size, no_class, refusal_of, unless_refused, changed, created, after_job, after_jobs, rect_with, effect, step, state_after}
+use Rattle.gui_core.specs.States.{State, Step, latest, opening, is_context_call, objections, objections_to, bad_size, no_class, refusal_of, unless_refused, changed, created, after_job, after_jobs, rect_with, effect, effect_of, context_after, with_own, step, state_after}
 use Rattle.gui_core.specs.Promises.{IsRightOutsideDamage, NoneInvalid}
 use Rattle.gui_core.proofs.JobLemmas.{none_invalid, no_jobs}
 use Rattle.gui_core.proofs.IgnoreLemmas.{bare-job}
@@ -95,7 +96,7 @@ opening_covers setup x y x_in y_in outside =
 abbrev Covers : Setup → List Win → List Win → Type 0
 Covers setup ws vs = (x y : ℕ) → x < setup.config.w → y < setup.config.h → DamageCovers (looks_of setup ws) ws (looks_of setup vs) vs (point_at (pos x) (pos y))
 
-right_after : (setup : Setup) (s : State) (vs : List Win) (handles : ℕ) → IsRightOutsideDamage setup s → Covers setup s.windows vs → IsRightOutsideDamage setup (record { windows = vs; handles = handles; shown = s.shown })
+right_after : (setup : Setup) (s : State) (vs : List Win) (handles : ℕ) → IsRightOutsideDamage setup s → Covers setup s.windows vs → IsRightOutsideDamage setup (record { windows = vs; handles = handles; shown = s.shown; contexts = s.contexts })
 right_after setup s vs handles right covers x y x_in y_in outside =
     let d = covers x y x_in y_in in
     right x y x_in y_in (d.stays outside) ∙ sym (d.covers outside)
@@ -190,7 +191,7 @@ valued_holds setup s vs same covers is = record {
 }
 
 -- a call that leads to a list
-led_holds : (setup : Setup) (s : State) (now : List Win) (handles h : ℕ) → Leads setup s.windows now handles h → Holds setup s → Holds setup (record { windows = after_change (screen_of setup) h s.windows now; handles = handles; shown = s.shown })
+led_holds : (setup : Setup) (s : State) (now : List Win) (handles h : ℕ) → Leads setup s.windows now handles h → Holds setup s → Holds setup (record { windows = after_change (screen_of setup) h s.windows now; handles = handles; shown = s.shown; contexts = s.contexts })
 led_holds setup s now handles h leads is = record {
   shaped = shaped_same setup now _ handles (bare_after_change (screen_of setup) h s.windows now) leads.shaped;
   covers = right_after setup s _ handles is.covers (λ x y x_in y_in. change_covers setup s.windows now handles h (point_at (pos x) (pos y)) leads (inside setup now handles x y leads.shaped x_in y_in));
@@ -244,6 +245,18 @@ effect_holds setup s (InvalidateArea x0 y0 x1 y1) e is =
 effect_holds setup s Exec e is = jobs_hold setup (jobs_of s.windows) s is
 effect_holds setup s Exec1 e is = jobs_hold setup (cond (list_any is_invalid s.windows) 1 0) s is
 effect_holds setup s Scan e is = is
+effect_holds setup s call e is = is
+
+-- a call on a context leaves the windows and the picture as they are
+owning_holds : (setup : Setup) (s : State) (task : ℕ) (own : Owned) → Holds setup s → Holds setup (with_own s task own).state
+owning_holds setup s task own is = record { shaped = is.shaped; covers = is.covers; shown = is.shown }
+
+any_effect_holds : (setup : Setup) (s : State) (actor : ℕ) (call : Call) → refusal_of (objections_to setup s actor call) ≡ None → Holds setup s → Holds setup (effect_of setup s actor call).state
+any_effect_holds setup s actor call fine is =
+    elim (cases_Bool (is_context_call call)) [
+      | inl on ↦ rw on (owning_holds setup s actor (context_after (owned_by s.contexts actor) call) is)
+      | inr other ↦ rw other (effect_holds setup s call (rw other at fine) is)
+    ]
 
 unless_refused_holds : (setup : Setup) (s : State) (done : Step) (o : Option Refusal) → Holds setup s → (o ≡ None → Holds setup done.state) → Holds setup (unless_refused o s done).state
 unless_refused_holds setup s done None is is_done = is_done refl
@@ -251,7 +264,8 @@ unless_refused_holds setup s done (Some refusal) is is_done = is
 
 step_holds : (setup : Setup) (s : State) (e : Entry) → Holds setup s → Holds setup (step setup s e).state
 unfolding step
-step_holds setup s (entry.Call actor call) is = unless_refused_holds setup s (effect setup s call) (refusal_of (objections (length setup.assets.classes) s.windows call)) is (λ fine. effect_holds setup s call fine is)
+step_holds setup s (entry.Call actor call) is =
+    unless_refused_holds setup s (effect_of setup s actor call) (refusal_of (objections_to setup s actor call)) is (λ fine. any_effect_holds setup s actor call fine is)
 
 entries_hold : (setup : Setup) (s : State) (es : List Entry) → Holds setup s → Holds setup (state_after setup s es)
 entries_hold setup s [] is = is

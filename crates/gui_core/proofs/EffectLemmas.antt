@@ -21,11 +21,13 @@ use Rattle.calls.specs.declared.reply.Refusal.{Refusal}
 use Rattle.calls.specs.declared.reply.Refusal.TheVariants.{Desktop, BadSize, TooManyWindows, TooDeep, NoClass}
 use Rattle.gui_core.specs.declared.change.Change.{Change}
 use Rattle.gui_core.specs.declared.change.Change.TheVariants.{Delete, MoveTo, MoveBy, Resize, Show, Hide, ToTop, ToBottom, SetClass, SetTrans}
+use Rattle.gui_core.specs.declared.contexts.ContextChange.{ContextChange}
+use Rattle.gui_core.specs.declared.contexts.ContextChange.TheVariants as context_change
 use Rattle.gui_core.specs.Setups.{Setup, screen_of}
 use Rattle.gui_core.specs.Windows.{after_change, with_class, with_invalid_window, with_invalid_rect, with_trans}
 use Rattle.gui_core.specs.Scenes.{HasClass, IsScene}
-use Rattle.gui_core.specs.Changes.{call_for, list_after}
-use Rattle.gui_core.specs.States.{State, Step, with_windows, effect, Objection, objections, no_window, too_deep, bad_size, no_class, refusal_of}
+use Rattle.gui_core.specs.Changes.{call_for, list_after, context_call}
+use Rattle.gui_core.specs.States.{State, Step, is_context_call, with_windows, effect, Objection, objections, no_window, too_deep, bad_size, no_class, refusal_of}
 use Rattle.gui_core.proofs.IgnoreLemmas.{bare_invalidated}
 use Rattle.gui_core.proofs.SceneLemmas.{found_has, found_handle, MayStand, scene_changed, scene_marked, scene_raised, scene_lowered, scene_without}
 
@@ -220,6 +222,27 @@ pub scene_invalid_rect : (setup : Setup) (ws : List Win) (handles h : ℕ) (loca
 scene_invalid_rect setup ws handles h local s = scene_invalid setup ws handles h (clip_in (screen_of setup) ws) (λ w. on_screen ws w local) s
 
 -- ---- what a change does
+
+pub on_no_context : (h : ℕ) (change : Change) → is_context_call (call_for h change) ≡ false
+on_no_context h Delete = refl
+on_no_context h (MoveTo x y) = refl
+on_no_context h (MoveBy dx dy) = refl
+on_no_context h (Resize width height) = refl
+on_no_context h Show = refl
+on_no_context h Hide = refl
+on_no_context h ToTop = refl
+on_no_context h ToBottom = refl
+on_no_context h (SetClass class) = refl
+on_no_context h (SetTrans trans) = refl
+
+pub on_a_context : (change : ContextChange) → is_context_call (context_call change) ≡ true
+on_a_context (context_change.Select h) = refl
+on_a_context (context_change.Colour c) = refl
+on_a_context (context_change.BkColour c) = refl
+on_a_context (context_change.TextMode trans) = refl
+on_a_context (context_change.Font font) = refl
+on_a_context context_change.Save = refl
+on_a_context context_change.Restore = refl
 
 pub does : (setup : Setup) (s : State) (h : ℕ) (change : Change) → ◌≡◌ {A = Step} (with_windows s (after_change (screen_of setup) h s.windows (list_after h change s.windows))) (effect setup s (call_for h change))
 does setup s h Delete = refl

@@ -17,4 +17,5 @@ mod PictureLemmas
 mod DamageLemmas
 mod SceneryLemmas
 mod CallLemmas
+mod ContextLemmas
 pub mod CallerLemmas

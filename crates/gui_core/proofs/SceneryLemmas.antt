@@ -1,5 +1,5 @@
 -- What the painter's picture looks at, and the calls that change nothing of it.
-use Rattle.std.proofs.Common.{◌≡◌, ℕ, ℤ, ◌+◌, zero, suc, pos, false, cond, List, [], ◌∷◌, length, map, Option, Some, None, refl, sym, ap, subst, ◌∙◌, inl, inr}
+use Rattle.std.proofs.Common.{◌≡◌, ℕ, ℤ, ◌+◌, zero, suc, pos, true, false, cond, List, [], ◌∷◌, length, map, Option, Some, None, refl, sym, ap, subst, ◌∙◌, inl, inr}
 use Rattle.std.specs.List.{list_any}
 use Rattle.std.proofs.Math.Path.{fun_ext}
 use Rattle.std.proofs.lemmas.Bool.{cases_Bool}
@@ -11,10 +11,11 @@ use Rattle.scene.specs.Clips.{clip_in}
 use Rattle.scene.specs.Families.{new_window, on_top_of}
 use Rattle.scene.proofs.CallerLemmas.{bare, bare-area, painted-same}
 use Rattle.calls.specs.declared.call.Call.{Call}
-use Rattle.calls.specs.declared.call.Call.TheVariants.{Create, Delete, MoveTo, MoveBy, Resize, Show, Hide, ToTop, ToBottom, SetClass, Invalidate, InvalidateRect, InvalidateArea, Exec, Exec1, Scan, SetTrans, SetValue, Send}
+use Rattle.calls.specs.declared.call.Call.TheVariants.{Create, Delete, MoveTo, MoveBy, Resize, Show, Hide, ToTop, ToBottom, SetClass, Invalidate, InvalidateRect, InvalidateArea, Exec, Exec1, Scan, SetTrans, SetValue, Send, Select, Colour, BkColour, TextMode, Font, Save, Restore}
 use Rattle.calls.specs.declared.entry.Entry.{Entry}
 use Rattle.calls.specs.declared.entry.Entry.TheVariants as entry
-use Rattle.calls.specs.declared.reply.Reply.TheVariants.{Refused}
+use Rattle.calls.specs.declared.reply.Reply.{Reply}
+use Rattle.calls.specs.declared.reply.Reply.TheVariants.{Done, Refused}
 use Rattle.calls.specs.declared.reply.Refusal.{Refusal}
 use Rattle.gui_core.specs.declared.change.Change.{Change}
 use Rattle.gui_core.specs.declared.change.Change.TheVariants as change
@@ -22,7 +23,7 @@ use Rattle.gui_core.specs.Setups.{Setup, screen_of, painter}
 use Rattle.invalidate.specs.Invalidation.{is_invalid}
 use Rattle.gui_core.specs.Changes.{list_after}
 use Rattle.gui_core.specs.Jobs.{jobs_of}
-use Rattle.gui_core.specs.States.{State, Step, Objection, opening, objections, refusal_of, unless_refused, changed, created, after_create, after_job, after_jobs, painted, rect_with, effect, step, state_after}
+use Rattle.gui_core.specs.States.{State, Step, Objection, opening, is_context_call, objections, objections_to, refusal_of, unless_refused, changed, created, after_create, after_job, after_jobs, painted, rect_with, effect, effect_of, step_of_call, step, state_after}
 use Rattle.gui_core.specs.Promises.{changes_windows, window_calls}
 use Rattle.gui_core.proofs.IgnoreLemmas.{bare-job}
 use Rattle.gui_core.proofs.ShapeLemmas.{on_top_of-map}
@@ -55,11 +56,22 @@ effect_is_no_refusal setup s (InvalidateArea x0 y0 x1 y1) r e = absurd cc
 effect_is_no_refusal setup s Exec r e = absurd cc
 effect_is_no_refusal setup s Exec1 r e = absurd cc
 effect_is_no_refusal setup s Scan r e = absurd cc
+effect_is_no_refusal setup s call r e = absurd cc
+
+no_effect_refuses : (setup : Setup) (s : State) (actor : ℕ) (call : Call) (r : Refusal) → (effect_of setup s actor call).reply ≡ Refused r → ⊥
+no_effect_refuses setup s actor call r e =
+    elim (cases_Bool (is_context_call call)) [
+      | inl on ↦ reply_is_done (rw on at e)
+      | inr other ↦ effect_is_no_refusal setup s call r (rw other at e)
+    ]
+  where
+    reply_is_done : ◌≡◌ {A = Reply} Done (Refused r) → ⊥
+    reply_is_done same = absurd cc
 
 pub refusal_changes_nothing : (setup : Setup) (s : State) (e : Entry) (refusal : Refusal) → (step setup s e).reply ≡ Refused refusal → (step setup s e).state ≡ s
 unfolding step
 refusal_changes_nothing setup s (entry.Call actor call) refusal e =
-    refused_stays (refusal_of (objections (length setup.assets.classes) s.windows call)) s (effect setup s call) refusal (effect_is_no_refusal setup s call) e
+    refused_stays (refusal_of (objections_to setup s actor call)) s (effect_of setup s actor call) refusal (no_effect_refuses setup s actor call) e
 
 -- ---- the same scenery
 
@@ -159,19 +171,36 @@ effect_alike setup s t (InvalidateArea x0 y0 x1 y1) e =
 effect_alike setup s t Exec e = painted_alike setup s t (jobs_of s.windows) (jobs_of t.windows) e
 effect_alike setup s t Exec1 e = painted_alike setup s t (one_job s) (one_job t) e
 effect_alike setup s t Scan e = record { windows = e.windows; handles = e.handles }
+effect_alike setup s t call e = record { windows = e.windows; handles = e.handles }
 
 unless_alike : (o : Option Refusal) (s t : State) (done end : Step) → AreAlike s t → AreAlike done.state end.state → AreAlike (unless_refused o s done).state (unless_refused o t end).state
 unless_alike None s t done end before after = after
 unless_alike (Some refusal) s t done end before after = before
 
-step_alike : (setup : Setup) (s t : State) (e : Entry) → AreAlike s t → AreAlike (step setup s e).state (step setup t e).state
-unfolding step
-step_alike setup s t (entry.Call actor call) e =
+-- a call on a context leaves the windows as they are
+context_alike : (setup : Setup) (s : State) (actor : ℕ) (call : Call) → is_context_call call ≡ true → AreAlike s (step_of_call setup s actor call).state
+context_alike setup s actor call on = stays (refusal_of (objections_to setup s actor call))
+  where
+    stays : (o : Option Refusal) → AreAlike s (unless_refused o s (effect_of setup s actor call)).state
+    stays None = rw on (record { windows = refl; handles = refl })
+    stays (Some refusal) = alike_refl s
+
+windows_alike : (setup : Setup) (s t : State) (actor : ℕ) (call : Call) → is_context_call call ≡ false → AreAlike s t → AreAlike (step_of_call setup s actor call).state (step_of_call setup t actor call).state
+windows_alike setup s t actor call other e =
     let classes = length setup.assets.classes in
     let same : objections classes s.windows call ≡ objections classes t.windows call =
     sym (objections-bare classes s.windows call) ∙ ap (λ (ws : List Win). objections classes ws call) e.windows ∙ objections-bare classes t.windows call in
-    subst (λ (l : List Objection). AreAlike (unless_refused (refusal_of l) s (effect setup s call)).state (unless_refused (refusal_of (objections classes t.windows call)) t (effect setup t call)).state) (sym same)
-    (unless_alike (refusal_of (objections classes t.windows call)) s t (effect setup s call) (effect setup t call) e (effect_alike setup s t call e))
+    rw other
+    (subst (λ (l : List Objection). AreAlike (unless_refused (refusal_of l) s (effect setup s call)).state (unless_refused (refusal_of (objections classes t.windows call)) t (effect setup t call)).state) (sym same)
+    (unless_alike (refusal_of (objections classes t.windows call)) s t (effect setup s call) (effect setup t call) e (effect_alike setup s t call e)))
+
+step_alike : (setup : Setup) (s t : State) (e : Entry) → AreAlike s t → AreAlike (step setup s e).state (step setup t e).state
+unfolding step
+step_alike setup s t (entry.Call actor call) e =
+    elim (cases_Bool (is_context_call call)) [
+      | inl on ↦ alike_after _ s _ (alike_sym s _ (context_alike setup s actor call on)) (alike_after s t _ e (context_alike setup t actor call on))
+      | inr other ↦ windows_alike setup s t actor call other e
+    ]
 
 -- the other calls change nothing but what is invalid
 other_alike : (setup : Setup) (s : State) (e : Entry) → changes_windows e ≡ false → AreAlike s (step setup s e).state
@@ -195,6 +224,13 @@ other_alike setup s (entry.Call actor (InvalidateArea x0 y0 x1 y1)) window = abs
 other_alike setup s (entry.Call actor Exec) window = alike_sym _ s (jobs_alike setup (jobs_of s.windows) s)
 other_alike setup s (entry.Call actor Exec1) window = alike_sym _ s (jobs_alike setup (one_job s) s)
 other_alike setup s (entry.Call actor Scan) window = alike_refl s
+other_alike setup s (entry.Call actor (Select h)) window = context_alike setup s actor (Select h) refl
+other_alike setup s (entry.Call actor (Colour c)) window = context_alike setup s actor (Colour c) refl
+other_alike setup s (entry.Call actor (BkColour c)) window = context_alike setup s actor (BkColour c) refl
+other_alike setup s (entry.Call actor (TextMode trans)) window = context_alike setup s actor (TextMode trans) refl
+other_alike setup s (entry.Call actor (Font font)) window = context_alike setup s actor (Font font) refl
+other_alike setup s (entry.Call actor Save) window = context_alike setup s actor Save refl
+other_alike setup s (entry.Call actor Restore) window = context_alike setup s actor Restore refl
 
 entries_alike : (setup : Setup) (s t : State) (es : List Entry) → AreAlike s t → AreAlike (state_after setup s (window_calls es)) (state_after setup t es)
 entries_alike setup s t [] alike = alike

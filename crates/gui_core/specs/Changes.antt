@@ -1,4 +1,5 @@
--- What the calls on one window do to the list. No contract of a public function names these.
+-- What the calls on one window do to the list, and calls on a context. No contract of a public
+-- function names these.
 use Rattle.std.specs.Prelude.{ℕ, true, false, List}
 use Rattle.scene.specs.declared.win.Win.{Win}
 use Rattle.scene.specs.Families.{without_family, raised, lowered, window_changed, moved_to, resized_to, with_shown}
@@ -6,6 +7,8 @@ use Rattle.calls.specs.declared.call.Call.{Call}
 use Rattle.calls.specs.declared.call.Call.TheVariants as call
 use Rattle.gui_core.specs.declared.change.Change.{Change}
 use Rattle.gui_core.specs.declared.change.Change.TheVariants.{Delete, MoveTo, MoveBy, Resize, Show, Hide, ToTop, ToBottom, SetClass, SetTrans}
+use Rattle.gui_core.specs.declared.contexts.ContextChange.{ContextChange}
+use Rattle.gui_core.specs.declared.contexts.ContextChange.TheVariants as context_change
 use Rattle.gui_core.specs.Windows.{moved_by, with_class, with_trans}
 
 -- the call that asks for the change
@@ -21,7 +24,17 @@ call_for h ToBottom = call.ToBottom h
 call_for h (SetClass class) = call.SetClass h class
 call_for h (SetTrans trans) = call.SetTrans h trans
 
--- the list after it
+-- the call on a context that asks for the change
+abbrev pub context_call : ContextChange → Call
+context_call (context_change.Select h) = call.Select h
+context_call (context_change.Colour c) = call.Colour c
+context_call (context_change.BkColour c) = call.BkColour c
+context_call (context_change.TextMode trans) = call.TextMode trans
+context_call (context_change.Font font) = call.Font font
+context_call context_change.Save = call.Save
+context_call context_change.Restore = call.Restore
+
+-- the list after a change of one window
 abbrev pub list_after : ℕ → Change → List Win → List Win
 list_after h Delete ws = without_family h ws
 list_after h (MoveTo x y) ws = window_changed h (moved_to x y) ws

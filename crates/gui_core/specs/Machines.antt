@@ -31,10 +31,15 @@ pub record IsConfig (config : Config) : Type 0 where
   pub calls : config.calls ≤ 400000
 
 -- a call took one step, and isn't counted yet
-pub record Takes (old : Machine) (call : Call) (new : Machine) (reply : Reply) : Type 0 where
+pub record Takes (old : Machine) (actor : ℕ) (call : Call) (new : Machine)
+    (reply : Reply) : Type 0 where
   pub rest : new ≡ record old { state = new.state }
   pub step : ◌≡◌ {A = Step} (record { state = new.state; reply = reply })
-      (step_of_call old.setup old.state call)
+      (step_of_call old.setup old.state actor call)
+
+-- a call takes the same step whoever makes it
+pub record TakesAlike (old : Machine) (call : Call) (new : Machine) (reply : Reply) : Type 0 where
+  pub by : (actor : ℕ) → Takes old actor call new reply
 
 -- a call took one step, and was counted
 pub record Answers (old : Machine) (actor : ℕ) (call : Call) (new : Machine)

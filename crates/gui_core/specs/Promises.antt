@@ -1,5 +1,5 @@
 -- What holds of the latest picture after any calls.
-use Rattle.std.specs.Prelude.{◌≡◌, ℕ, ◌<◌, Bool, true, false, pos, List, filter}
+use Rattle.std.specs.Prelude.{◌≡◌, ◌≢◌, ℕ, ◌<◌, ◌≤◌, Bool, true, false, pos, List, filter}
 use Rattle.std.specs.List.{list_any}
 use Rattle.gfx_base.specs.Rects.{point_at}
 use Rattle.frame.specs.Pictures.{colour_at}
@@ -7,12 +7,12 @@ use Rattle.scene.specs.declared.win.Win.{Win}
 use Rattle.scene.specs.Painting.{painted}
 use Rattle.scene.specs.Damage.{is_damaged}
 use Rattle.calls.specs.declared.call.Call.{Call}
-use Rattle.calls.specs.declared.call.Call.TheVariants.{Exec, Exec1, Scan}
+use Rattle.calls.specs.declared.call.Call.TheVariants.{Exec, Exec1, Scan, Select, Colour, BkColour, TextMode, Font, Save, Restore}
 use Rattle.calls.specs.declared.entry.Entry.{Entry}
 use Rattle.calls.specs.declared.entry.Entry.TheVariants as entry
 use Rattle.gui_core.specs.Setups.{Setup, looks_of}
 use Rattle.invalidate.specs.Invalidation.{is_invalid}
-use Rattle.gui_core.specs.States.{State, latest}
+use Rattle.gui_core.specs.States.{State, latest, is_context_call}
 
 -- at each point of the screen outside the damage the latest picture is the painter's
 abbrev pub IsRightOutsideDamage : Setup → State → Type 0
@@ -31,12 +31,31 @@ abbrev pub is_window_call : Call → Bool
 is_window_call Exec = false
 is_window_call Exec1 = false
 is_window_call Scan = false
+is_window_call (Select h) = false
+is_window_call (Colour c) = false
+is_window_call (BkColour c) = false
+is_window_call (TextMode trans) = false
+is_window_call (Font font) = false
+is_window_call Save = false
+is_window_call Restore = false
 is_window_call call = true
 
 -- whether an entry may
 abbrev pub changes_windows : Entry → Bool
 changes_windows (entry.Call actor call) = is_window_call call
 
--- the entries that may
+-- whether an entry may change a context
+abbrev pub changes_contexts : Entry → Bool
+changes_contexts (entry.Call actor call) = is_context_call call
+
+-- who made the entry's call
+abbrev pub actor_of : Entry → ℕ
+actor_of (entry.Call actor call) = actor
+
+-- another task made it
+abbrev pub IsByAnother : ℕ → Entry → Type 0
+IsByAnother task e = (1 ≤ actor_of e) × (task ≢ actor_of e)
+
+-- the entries that may change windows
 abbrev pub window_calls : List Entry → List Entry
 window_calls es = filter changes_windows es

@@ -1,5 +1,6 @@
 -- How the tree's refusals are answered. No contract of a public function names these.
 use Rattle.std.specs.Prelude.{◌≡◌, ℕ, ◌+◌, List, Option, Some, None, Result, Ok, Err}
+use Rattle.context.specs.Contexts.{Owned, with_owned}
 use Rattle.scene.specs.declared.win.Win.{Win}
 use Rattle.win_tree.specs.Trees.{Scene}
 use Rattle.win_tree.specs.declared.refused.TreeRefused.{TreeRefused}
@@ -32,6 +33,12 @@ answered (Err refusal) = Refused refusal
 abbrev pub Performs : Result (Unit {0}) Refusal → Option Refusal → List Win → Scene → Scene → Type 0
 Performs (Ok _) reason now old new = (reason ≡ None) × (new ≡ record old { windows = now })
 Performs (Err refusal) reason now old new = (reason ≡ Some refusal) × (new ≡ old)
+
+-- the same for a call after which a task has this
+abbrev pub Alters : Result (Unit {0}) Refusal → Option Refusal → Owned → ℕ → List Owned → List Owned
+    → Type 0
+Alters (Ok _) reason own task old new = (reason ≡ None) × (new ≡ with_owned old task own)
+Alters (Err refusal) reason own task old new = (reason ≡ Some refusal) × (new ≡ old)
 
 -- the same for a call that gives the next handle to a new window
 abbrev pub Creates : Result ℕ Refusal → Option Refusal → List Win → Scene → Scene → Type 0

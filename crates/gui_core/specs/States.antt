@@ -1,31 +1,35 @@
--- The state of the windows and the shown picture, and what each call does to it.
+-- The state of the windows, the shown picture and the tasks' contexts, and what each call does to
+-- it.
 use Rattle.std.specs.Prelude.{ℕ, ℤ, zero, suc, ◌+◌, Bool, true, false, not, ◌==◌, nat_le, if◌then◌else◌, List, [], ◌∷◌, ◌++◌, length, Option, Some, None, is_some}
 use Rattle.std.specs.List.{list_any}
 use Rattle.std.specs.Option.{option_map_or}
 use Rattle.gfx_base.specs.declared.rect.Rect.{Rect}
 use Rattle.frame.specs.Pictures.{Picture, picture_of}
+use Rattle.context.specs.Contexts.{Owned, first_contexts, owned_by, with_owned, with_context, after_save, after_restore}
 use Rattle.scene.specs.declared.win.Win.{Win}
 use Rattle.scene.specs.Places.{window_of}
 use Rattle.scene.specs.Stacks.{is_bad_size, has_ancestors}
 use Rattle.scene.specs.Families.{new_window, desktop_with, on_top_of, without_family, raised, lowered, window_changed, moved_to, resized_to, with_shown}
 use Rattle.calls.specs.declared.call.Call.{Call}
-use Rattle.calls.specs.declared.call.Call.TheVariants.{Create, Delete, MoveTo, MoveBy, Resize, Show, Hide, ToTop, ToBottom, SetClass, Invalidate, InvalidateRect, InvalidateArea, Exec, Exec1, Scan, SetTrans, SetValue, Send}
+use Rattle.calls.specs.declared.call.Call.TheVariants.{Create, Delete, MoveTo, MoveBy, Resize, Show, Hide, ToTop, ToBottom, SetClass, Invalidate, InvalidateRect, InvalidateArea, Exec, Exec1, Scan, SetTrans, SetValue, Send, Select, Colour, BkColour, TextMode, Font, Save, Restore}
 use Rattle.calls.specs.declared.entry.Entry.{Entry}
 use Rattle.calls.specs.declared.entry.Entry.TheVariants as entry
 use Rattle.calls.specs.declared.reply.Reply.{Reply}
 use Rattle.calls.specs.declared.reply.Reply.TheVariants.{Done, Handle, Jobs, Refused}
 use Rattle.calls.specs.declared.reply.Refusal.{Refusal}
-use Rattle.calls.specs.declared.reply.Refusal.TheVariants.{NoWindow, Desktop, BadSize, TooManyWindows, TooDeep, NoClass, NoValue}
+use Rattle.calls.specs.declared.reply.Refusal.TheVariants.{NoWindow, Desktop, BadSize, TooManyWindows, TooDeep, NoClass, NoValue, NoFont, ContextDepth, NoContext}
 use Rattle.gui_core.specs.Setups.{Setup, screen_of}
 use Rattle.gui_core.specs.Windows.{moved_by, with_class, after_change, with_invalid_window, with_invalid_rect, with_invalid_area, with_trans, with_value, with_message}
 use Rattle.invalidate.specs.Invalidation.{is_invalid}
 use Rattle.gui_core.specs.Jobs.{windows_after_job, picture_after_job, jobs_of}
 
--- the windows from back to front, how many handles were given out, and the shown picture
+-- the windows from back to front, how many handles were given out, the shown picture, and what each
+-- task draws with and saved
 pub record State : Type 0 where
   pub windows : List Win
   pub handles : ℕ
   pub shown : Picture
+  pub contexts : List Owned
 
 -- the picture that is drawn on; with one buffer it is the shown one
 abbrev pub latest : State → Picture
@@ -34,18 +38,30 @@ latest s = s.shown
 abbrev pub with_latest : State → Picture → State
 with_latest s p = record s { shown = p }
 
--- before the first call: the desktop alone, on a black picture
+-- before the first call: the desktop alone, on a black picture, and each task's first context
 abbrev pub opening : Setup → State
 opening setup = record {
   windows = desktop_with setup.config.w setup.config.h (screen_of setup) ∷ [];
   handles = 1;
   shown = picture_of setup.config.w setup.config.h (λ x y. 0);
+  contexts = first_contexts;
 }
 
 -- the state after a call, and its reply
 pub record Step : Type 0 where
   pub state : State
   pub reply : Reply
+
+-- whether a call is on its task's context
+abbrev pub is_context_call : Call → Bool
+is_context_call (Select h) = true
+is_context_call (Colour c) = true
+is_context_call (BkColour c) = true
+is_context_call (TextMode trans) = true
+is_context_call (Font font) = true
+is_context_call Save = true
+is_context_call Restore = true
+is_context_call call = false
 
 -- ---- refusals
 
@@ -72,11 +88,16 @@ no_class classes class = (nat_le classes class, NoClass class)
 abbrev pub no_value : ℕ → Objection
 no_value index = (nat_le 16 index, NoValue index)
 
+-- there are only so many fonts
+abbrev pub unknown_font : ℕ → ℕ → Objection
+unknown_font fonts font = (nat_le fonts font, NoFont font)
+
 -- there is no such window, or it is the desktop, which stays as it is
 abbrev pub unchangeable : List Win → ℕ → List Objection
 unchangeable ws h = no_window ws h ∷ (h == 1, Desktop) ∷ []
 
--- what may be held against a call, in order, where there are so many classes and these windows
+-- what may be held against a call on windows or on painting, in order, where there are so many
+-- classes and these windows
 abbrev pub objections : ℕ → List Win → Call → List Objection
 objections classes ws (Create parent x y w h class) =
     no_window ws parent ∷ too_deep ws parent ∷ bad_size w h ∷ no_class classes class
@@ -99,6 +120,23 @@ objections classes ws (InvalidateArea x0 y0 x1 y1) = []
 objections classes ws Exec = []
 objections classes ws Exec1 = []
 objections classes ws Scan = []
+objections classes ws call = []
+
+-- what may be held against a call on a context, where there are so many fonts and these windows,
+-- and its task has this
+abbrev pub context_objections : ℕ → List Win → Owned → Call → List Objection
+context_objections fonts ws own (Select h) = no_window ws h ∷ []
+context_objections fonts ws own (Font font) = unknown_font fonts font ∷ []
+context_objections fonts ws own Save = (length own.saved == 8, ContextDepth) ∷ []
+context_objections fonts ws own Restore = (length own.saved == 0, NoContext) ∷ []
+context_objections fonts ws own call = []
+
+-- what may be held against a call of an actor, in order
+abbrev pub objections_to : Setup → State → ℕ → Call → List Objection
+objections_to setup s actor call =
+    if is_context_call call
+    then context_objections (length setup.assets.fonts) s.windows (owned_by s.contexts actor) call
+    else objections (length setup.assets.classes) s.windows call
 
 -- the first that holds
 abbrev pub refusal_of : List Objection → Option Refusal
@@ -149,7 +187,7 @@ painted setup s jobs = record { state = after_jobs setup jobs s; reply = Jobs jo
 abbrev pub rect_with : ℤ → ℤ → ℤ → ℤ → Rect
 rect_with x0 y0 x1 y1 = record { x0 = x0; y0 = y0; x1 = x1; y1 = y1 }
 
--- what a call does that isn't refused
+-- what a call on windows or on painting does that isn't refused
 abbrev pub effect : Setup → State → Call → Step
 effect setup s (Create parent x y w h class) =
     created setup s (new_window (s.handles + 1) parent x y w h class)
@@ -179,16 +217,40 @@ effect setup s (InvalidateArea x0 y0 x1 y1) =
 effect setup s Exec = painted setup s (jobs_of s.windows)
 effect setup s Exec1 = painted setup s (if list_any is_invalid s.windows then 1 else 0)
 effect setup s Scan = record { state = s; reply = Done }
+effect setup s call = record { state = s; reply = Done }
+
+-- what a task has after a call on its context that isn't refused
+abbrev pub context_after : Owned → Call → Owned
+context_after own (Select h) = with_context own (record own.context { window = h })
+context_after own (Colour c) = with_context own (record own.context { colour = c })
+context_after own (BkColour c) = with_context own (record own.context { bk = c })
+context_after own (TextMode trans) = with_context own (record own.context { trans_text = trans })
+context_after own (Font font) = with_context own (record own.context { font = font })
+context_after own Save = after_save own
+context_after own Restore = after_restore own
+context_after own call = own
+
+-- a task has something else
+abbrev pub with_own : State → ℕ → Owned → Step
+with_own s task own =
+    record { state = record s { contexts = with_owned s.contexts task own }; reply = Done }
+
+-- what a call of an actor does that isn't refused
+abbrev pub effect_of : Setup → State → ℕ → Call → Step
+effect_of setup s actor call =
+    if is_context_call call
+    then with_own s actor (context_after (owned_by s.contexts actor) call)
+    else effect setup s call
 
 -- ---- steps
 
-abbrev pub step_of_call : Setup → State → Call → Step
-step_of_call setup s call =
-    unless_refused (refusal_of (objections (length setup.assets.classes) s.windows call)) s
-    (effect setup s call)
+abbrev pub step_of_call : Setup → State → ℕ → Call → Step
+step_of_call setup s actor call =
+    unless_refused (refusal_of (objections_to setup s actor call)) s
+    (effect_of setup s actor call)
 
 unfoldable pub step : Setup → State → Entry → Step
-step setup s (entry.Call actor call) = step_of_call setup s call
+step setup s (entry.Call actor call) = step_of_call setup s actor call
 
 -- the state after the entries of a history
 abbrev pub state_after : Setup → State → List Entry → State

@@ -4,8 +4,10 @@ ghost use Rattle.paint_ops.specs.Soundness.{IsSound};
 ghost use Rattle.calls.specs.Actors.{fits};
 
 use crate::change::Change;
+use crate::contexts::{ContextChange, change_context};
 use crate::windows::{NewWindow, Windows};
 use calls::{Call, Config, Refusal, Reply};
+use context::Contexts;
 use exec_paint::job;
 use frame::Frame;
 use gfx_base::{Memory, Rect};
@@ -21,6 +23,7 @@ pub struct Gui {
     config: Config,
     assets: Assets,
     windows: Windows,
+    contexts: Contexts,
     shown: Frame,
     /// What windows compose in before they show. None does so far, so one point is enough.
     device: Frame,
@@ -39,6 +42,7 @@ impl Model for Gui {
         windows = g.windows.windows;
         handles = g.windows.handles;
         shown = g.shown.picture;
+        contexts = g.contexts;
       };
       made = g.made;
       refused = g.refused;
@@ -50,6 +54,7 @@ impl Model for Gui {
         windows = g.windows.windows;
         handles = g.windows.handles;
         shown = g.shown.picture;
+        contexts = g.contexts;
       };
       made = g.made;
       refused = g.refused;
@@ -79,6 +84,13 @@ fn class_count(assets: &Assets) -> usize
     assets.classes.len()
 }
 
+/// How many fonts there are.
+fn font_count(assets: &Assets) -> usize
+    ensures { result ≡ length assets.now.fonts }
+{
+    assets.fonts.len()
+}
+
 /// The reply to a call that gives nothing.
 fn answered(answer: Result<(), Refusal>) -> Reply
     ensures { result ≡ answered answer }
@@ -96,9 +108,9 @@ impl Gui {
     ghost use Rattle.invalidate.specs.Invalidation.{is_invalid};
     ghost use Rattle.calls.specs.declared.call.Call.TheVariants.{Create};
     ghost use Rattle.gui_core.specs.Jobs.{jobs_of};
-    ghost use Rattle.gui_core.specs.Changes.{call_for};
+    ghost use Rattle.gui_core.specs.Changes.{call_for, context_call};
     ghost use Rattle.gui_core.specs.States.{after_job, after_jobs, is_refused};
-    ghost use Rattle.gui_core.specs.Machines.{IsConfig, Takes, Answers, starting};
+    ghost use Rattle.gui_core.specs.Machines.{IsConfig, Takes, TakesAlike, Answers, starting};
 
     /// The desktop alone, which waits to be painted, on a black picture. What windows paint with is
     /// sound and has a class 0, in whose place comes the desktop's: the configuration's colour
@@ -114,10 +126,12 @@ impl Gui {
         let device = Frame::new(alloc, 1, 1)?;
         let windows = Windows::open(alloc, config.w, config.h)?;
         let assets = with_desktop(alloc, assets, &config);
+        let contexts = Contexts::new();
         Ok(Gui {
             config,
             assets,
             windows,
+            contexts,
             shown,
             device,
             made: 0,
@@ -164,6 +178,7 @@ impl Gui {
             config: _,
             assets,
             windows,
+            contexts: _,
             mut shown,
             device: _,
             made: _,
@@ -230,7 +245,7 @@ impl Gui {
     fn create(&mut self, new: &NewWindow) -> Reply
         requires { self.old.state.handles ≤ self.old.made }
         ensures { let n = new.now in
-            Takes self.old (Create n.parent n.x n.y n.w n.h n.class) self.new result }
+            TakesAlike self.old (Create n.parent n.x n.y n.w n.h n.class) self.new result }
     {
         let screen = screen(self.config.w, self.config.h);
         match self.windows.create(new, class_count(&self.assets), &screen) {
@@ -240,7 +255,7 @@ impl Gui {
     }
 
     fn change(&mut self, h: u32, change: Change) -> Reply
-        ensures { Takes self.old (call_for h change) self.new result }
+        ensures { TakesAlike self.old (call_for h change) self.new result }
     {
         let screen = screen(self.config.w, self.config.h);
         answered(
@@ -250,14 +265,14 @@ impl Gui {
     }
 
     fn set_value(&mut self, h: u32, index: u8, value: i16) -> Reply
-        ensures { Takes self.old (Call.SetValue h index value) self.new result }
+        ensures { TakesAlike self.old (Call.SetValue h index value) self.new result }
     {
         let screen = screen(self.config.w, self.config.h);
         answered(self.windows.set_value(h, index, value, &screen))
     }
 
     fn send(&mut self, h: u32, message: u8, argument: i16) -> Reply
-        ensures { Takes self.old (Call.Send h message argument) self.new result }
+        ensures { TakesAlike self.old (Call.Send h message argument) self.new result }
     {
         let screen = screen(self.config.w, self.config.h);
         answered(
@@ -267,7 +282,7 @@ impl Gui {
     }
 
     fn invalidate(&mut self, h: u32) -> Reply
-        ensures { Takes self.old (Call.Invalidate h) self.new result }
+        ensures { TakesAlike self.old (Call.Invalidate h) self.new result }
     {
         let screen = screen(self.config.w, self.config.h);
         answered(self.windows.invalidate(h, &screen))
@@ -276,7 +291,7 @@ impl Gui {
     fn invalidate_rect(&mut self, h: u32, local: &Rect) -> Reply
         requires { IsLocal local.now }
         ensures { let r = local.now in
-            Takes self.old (Call.InvalidateRect h r.x0 r.y0 r.x1 r.y1) self.new result }
+            TakesAlike self.old (Call.InvalidateRect h r.x0 r.y0 r.x1 r.y1) self.new result }
     {
         let screen = screen(self.config.w, self.config.h);
         answered(self.windows.invalidate_rect(h, local, &screen))
@@ -284,17 +299,31 @@ impl Gui {
 
     fn invalidate_area(&mut self, area: &Rect) -> Reply
         ensures { let r = area.now in
-            Takes self.old (Call.InvalidateArea r.x0 r.y0 r.x1 r.y1) self.new result }
+            TakesAlike self.old (Call.InvalidateArea r.x0 r.y0 r.x1 r.y1) self.new result }
     {
         let screen = screen(self.config.w, self.config.h);
         self.windows.invalidate_area(area, &screen);
         Reply::Done
     }
 
-    /// Makes a call that is counted already.
-    fn take(&mut self, call: &Call) -> Reply
-        requires { self.old.state.handles ≤ self.old.made }
-        ensures { Takes self.old call.now self.new result }
+    fn change_context(&mut self, task: u16, change: ContextChange) -> Reply
+        requires { (1 ≤ task) × (task ≤ 16) }
+        ensures { Takes self.old task (context_call change) self.new result }
+    {
+        answered(change_context(
+            &mut self.contexts,
+            task,
+            change,
+            &self.windows,
+            font_count(&self.assets),
+        ))
+    }
+
+    /// Makes a call of an actor that is counted already.
+    fn take(&mut self, actor: u16, call: &Call) -> Reply
+        requires actor { (1 ≤ actor) × (actor ≤ 16) }
+        requires handles { self.old.state.handles ≤ self.old.made }
+        ensures { Takes self.old actor call.now self.new result }
     {
         match *call {
             Call::Create {
@@ -328,6 +357,15 @@ impl Gui {
                 message,
                 argument,
             } => self.send(h, message, argument),
+            Call::Select { h } => self.change_context(actor, ContextChange::Select { h }),
+            Call::Colour { c } => self.change_context(actor, ContextChange::Colour { c }),
+            Call::BkColour { c } => self.change_context(actor, ContextChange::BkColour { c }),
+            Call::TextMode { trans } => {
+                self.change_context(actor, ContextChange::TextMode { trans })
+            }
+            Call::Font { font } => self.change_context(actor, ContextChange::Font { font }),
+            Call::Save => self.change_context(actor, ContextChange::Save),
+            Call::Restore => self.change_context(actor, ContextChange::Restore),
             Call::Invalidate { h } => self.invalidate(h),
             Call::InvalidateRect { h, x0, y0, x1, y1 } => {
                 self.invalidate_rect(h, &local_rect(x0, y0, x1, y1))
@@ -351,7 +389,7 @@ impl Gui {
         ensures bytes { _room.new ≡ _room.old }
     {
         self.made += 1;
-        let reply = self.take(call);
+        let reply = self.take(actor, call);
         if let Reply::Refused(_) = reply {
             self.refused += 1;
         }

@@ -1,14 +1,16 @@
 //! Laws of the definitions, each as the contract of a function that does nothing.
 
-ghost use Rattle.std.specs.Prelude.{◌≡◌, ℕ, List};
+ghost use Rattle.std.specs.Prelude.{◌≡◌, ◌≤◌, ℕ, false, List};
+ghost use Rattle.std.specs.List.{AllByRecursion};
 ghost use Rattle.gfx_base.specs.declared.point.Point.{Point};
 ghost use Rattle.scene.specs.declared.win.Win.{Win};
 ghost use Rattle.scene.specs.Painting.{windows_at, visible, painted_over, painted};
+ghost use Rattle.context.specs.Contexts.{owned_by};
 ghost use Rattle.calls.specs.declared.entry.Entry.{Entry};
 ghost use Rattle.calls.specs.declared.entry.Entry.TheVariants as entry;
 ghost use Rattle.gui_core.specs.Setups.{Setup, looks_of, painter};
 ghost use Rattle.gui_core.specs.States.{State, latest, opening, step, state_after};
-ghost use Rattle.gui_core.specs.Promises.{IsRightOutsideDamage, NoneInvalid, window_calls};
+ghost use Rattle.gui_core.specs.Promises.{IsRightOutsideDamage, NoneInvalid, window_calls, changes_contexts, IsByAnother};
 
 use calls::{Call, Refusal, Reply};
 
@@ -41,4 +43,17 @@ pub fn painting_moves_nothing()
     ensures { (setup : Setup) (es : List Entry)
         → painter setup (state_after setup (opening setup) (window_calls es)).windows
         ≡ painter setup (state_after setup (opening setup) es).windows }
+{}
+
+/// Does nothing. What a task draws with and saved stays through the calls of other tasks, one or
+/// many, and through all calls that aren't on contexts. Tasks are numbered from 1.
+pub fn contexts_are_separate()
+    ensures others { (setup : Setup) (s : State) (e : Entry) (task : ℕ) → 1 ≤ task
+        → IsByAnother task e
+        → owned_by (step setup s e).state.contexts task ≡ owned_by s.contexts task }
+    ensures many { (setup : Setup) (s : State) (es : List Entry) (task : ℕ) → 1 ≤ task
+        → AllByRecursion (IsByAnother task) es
+        → owned_by (state_after setup s es).contexts task ≡ owned_by s.contexts task }
+    ensures rest { (setup : Setup) (s : State) (e : Entry) → changes_contexts e ≡ false
+        → (step setup s e).state.contexts ≡ s.contexts }
 {}

@@ -1,8 +1,9 @@
-//! The core: the windows, the picture that is shown, and what each call does to them. All memory is
-//! taken at opening.
+//! The core: the windows, the picture that is shown, what each task draws with, and what each call
+//! does to them. All memory is taken at opening.
 #![tactic(auto)]
 
 mod change;
+mod contexts;
 mod gui;
 mod jobs;
 pub mod laws;

@@ -1,12 +1,12 @@
 //! The windows of a screen: their tree, and the list of its order in which parts are made invalid.
 
-ghost use Rattle.std.specs.Prelude.{◌≡◌, ◌+◌, ◌<◌, slice_get, slice_set, ◌≤◌, ◌==◌, Ok, Err, None, Some, [], ◌∷◌, length, map, position, IfOk};
+ghost use Rattle.std.specs.Prelude.{◌≡◌, ◌+◌, ◌<◌, slice_get, slice_set, ◌≤◌, ◌==◌, Ok, Err, None, Some, [], ◌∷◌, length, map, position, IfOk, is_some};
 ghost use Rattle.std.specs.Bool.{OnTrue};
 ghost use Rattle.arrayvec.specs.ArrayVec.{array_vec_len};
 ghost use Rattle.scene.specs.declared.win.Win.{Win as Window};
 ghost use Rattle.scene.specs.Clips.{clip_in};
 ghost use Rattle.scene.specs.Looks.{screen_with};
-ghost use Rattle.scene.specs.Places.{AreSingle};
+ghost use Rattle.scene.specs.Places.{AreSingle, window_of};
 ghost use Rattle.scene.specs.Damage.{invalidated, areas_invalidated};
 ghost use Rattle.scene.specs.Families.{new_window, desktop_with, on_top_of};
 ghost use Rattle.scene.specs.Stacks.{IsStack, AreGiven, desktop_screen};
@@ -280,6 +280,13 @@ impl Windows {
         ensures { result.now ≡ self.now.windows }
     {
         self.stack.as_slice()
+    }
+
+    /// Whether a window that lives has the handle.
+    pub fn has(&self, h: u32) -> bool
+        ensures { result ≡ is_some (window_of self.now.windows h) }
+    {
+        self.tree.get(h).is_some()
     }
 
     /// Makes a window, where there are so many classes, and gives its handle.

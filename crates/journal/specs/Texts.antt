@@ -5,7 +5,7 @@ use Rattle.spelling.specs.Digits.{hex_colour}
 use Rattle.calls.specs.declared.call.Call.{Call}
 use Rattle.calls.specs.declared.call.Call.TheVariants.{Scan}
 use Rattle.calls.specs.declared.reply.Refusal.{Refusal}
-use Rattle.calls.specs.declared.reply.Refusal.TheVariants.{NoWindow, Desktop, BadSize, TooManyWindows, TooDeep, NoClass, NoValue}
+use Rattle.calls.specs.declared.reply.Refusal.TheVariants.{NoWindow, Desktop, BadSize, TooManyWindows, TooDeep, NoClass, NoValue, NoFont, ContextDepth, NoContext}
 use Rattle.calls.specs.declared.reply.Reply.{Reply}
 use Rattle.calls.specs.declared.reply.Reply.TheVariants.{Done, Handle, Jobs, Refused}
 use Rattle.frame.specs.Pictures.{Picture, rows_of}
@@ -57,6 +57,9 @@ refusal_text TooManyWindows = codes "refused TooManyWindows\n"
 refusal_text TooDeep = codes "refused TooDeep\n"
 refusal_text (NoClass class) = codes "refused NoClass " ++ decimal class ++ codes "\n"
 refusal_text (NoValue index) = codes "refused NoValue " ++ decimal index ++ codes "\n"
+refusal_text (NoFont font) = codes "refused NoFont " ++ decimal font ++ codes "\n"
+refusal_text ContextDepth = codes "refused ContextDepth\n"
+refusal_text NoContext = codes "refused NoContext\n"
 
 -- the answer where a call is done: a scan's is the shown picture
 abbrev pub done_text : Call → Picture → List ℕ

@@ -111,6 +111,9 @@ fn write_refusal<K: Sink>(out: &mut K, refusal: &Refusal) -> Result<(), SinkFaul
         Refusal::TooDeep => out.write(b"refused TooDeep\n"),
         Refusal::NoClass(class) => write_number(out, b"refused NoClass ", *class),
         Refusal::NoValue(index) => write_number(out, b"refused NoValue ", *index),
+        Refusal::NoFont(font) => write_number(out, b"refused NoFont ", *font),
+        Refusal::ContextDepth => out.write(b"refused ContextDepth\n"),
+        Refusal::NoContext => out.write(b"refused NoContext\n"),
     }
 }
 

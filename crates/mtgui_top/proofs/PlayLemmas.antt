@@ -49,12 +49,13 @@ replies-more setup s new lines i d last lt e =
     ∙ append_assoc (answer_text setup s line) (replies setup new (drop (i + 1) lines)) last
 
 -- the answer to the next line, and those that are left
-pub replies-step : (setup : Setup) (old new : Machine) (lines : List Line) (i : ℕ) (d : Line) (last : List ℕ) → i < length lines → old.setup ≡ setup → LineDone old (get_or lines i d) new
-    → replies setup old.state (drop i lines) ++ last ≡ answer_text old.setup old.state (get_or lines i d) ++ (replies setup new.state (drop (i + 1) lines) ++ last)
-replies-step setup old new lines i d last lt same done =
-    let line = get_or lines i d in
-    replies-more setup old.state new.state lines i d last lt (stepped setup old new line same done)
-    ∙ ap (λ (k : Setup). answer_text k old.state line ++ (replies setup new.state (drop (i + 1) lines) ++ last)) (sym same)
+pub replies-step : (setup : Setup) (old new : Machine) (lines : List Line) (i : ℕ) (line : Line) (last : List ℕ) → line ≡ get_or lines i line → i < length lines → old.setup ≡ setup → LineDone old line new
+    → replies setup old.state (drop i lines) ++ last ≡ answer_text old.setup old.state line ++ (replies setup new.state (drop (i + 1) lines) ++ last)
+replies-step setup old new lines i line last at lt same done =
+    let rest = replies setup new.state (drop (i + 1) lines) ++ last in
+    replies-more setup old.state new.state lines i line last lt (stepped setup old new line same done ∙ ap (state_past setup old.state) at)
+    ∙ ap (λ (l : Line). answer_text setup old.state l ++ rest) (sym at)
+    ∙ ap (λ (k : Setup). answer_text k old.state line ++ rest) (sym same)
 
 refused_count-more : (setup : Setup) (s new : State) (lines : List Line) (i : ℕ) (d : Line) → i < length lines → new ≡ state_past setup s (get_or lines i d)
     → refused_count setup s (drop i lines) ≡ refused_at setup s (get_or lines i d) + refused_count setup new (drop (i + 1) lines)

@@ -8,7 +8,7 @@ ghost use Rattle.outside.specs.Files.{IsFile};
 ghost use Rattle.calls.specs.Lines.{call_count, entries_of, FitsItsTask};
 ghost use Rattle.script.specs.Scripts.{Script, IsScript, IsReady};
 ghost use Rattle.gui_core.specs.States.{state_after};
-ghost use Rattle.gui_core.specs.Promises.{window_calls};
+ghost use Rattle.gui_core.specs.Promises.{window_calls, is_window_call};
 ghost use Rattle.mtgui_top.specs.Changes.{may_change};
 ghost use Rattle.mtgui_top.specs.Machines.{LineDone, HasRoom, IsFresh};
 ghost use Rattle.mtgui_top.specs.Playing.{answer_text, replies, summary_of, play_text, paint_text, text_for, reason_text};
@@ -134,16 +134,36 @@ fn play_script<K: Sink>(alloc: Global, script: Script, out: &mut K) -> Result<()
     Ok(())
 }
 
+/// Whether a call may change where windows are, or what they are. The others paint, look, or change
+/// what a task draws with.
+fn is_window_call(call: &Call) -> bool
+    ensures { result ≡ is_window_call call.now }
+{
+    !matches!(
+        call,
+        Call::Exec
+            | Call::Exec1
+            | Call::Scan
+            | Call::Select { .. }
+            | Call::Colour { .. }
+            | Call::BkColour { .. }
+            | Call::TextMode { .. }
+            | Call::Font { .. }
+            | Call::Save
+            | Call::Restore
+    )
+}
+
 /// Whether a line may change where windows are, or what they are.
 fn changes_windows(line: &Line) -> bool
     ensures { result ≡ may_change line.now }
 {
     match line {
         Line::Task {
-            act: Act::Call(Call::Exec | Call::Exec1 | Call::Scan) | Act::Lock | Act::Unlock,
+            act: Act::Call(call),
             ..
-        } => false,
-        _ => true,
+        } => is_window_call(call),
+        _ => false,
     }
 }
 

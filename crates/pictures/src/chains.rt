@@ -22,7 +22,8 @@ const CALLS: &str = "create 1 5 5 9 6 3/create 3 -1 2 9 9 4/create 8 1 1 3 3 1/c
     set_trans 9 1/set_trans 10 0/set_trans 2 0/set_trans 1 1/set_value 2 0 7/set_value 3 0 4/\
     set_value 9 1 -12/set_value 8 1 2/set_value 4 15 0/set_value 1 0 1/set_value 3 16 0/\
     send 10 0 3/send 3 1 -2/send 6 0 9/send 9 1 32767/send 8 2 1/send 4 9 1/send 1 0 1/\
-    send 99 0 0";
+    send 99 0 0/select 5/select 99/colour FF8000/bk_colour 0080FF/text_mode trans/font 0/save/\
+    restore";
 
 fn add_call(script: &mut String, call: &str) -> Result<(), AllocError> {
     writeln!(script, "1 {call}")

@@ -89,12 +89,29 @@ fn add_change(numbers: &mut Numbers, script: &mut String, h: u16) -> Result<(), 
     }
 }
 
-/// Adds a call that doesn't paint all: some do one job, some make an area invalid, and the others
-/// make or change a window.
+/// Adds a call on what a task draws with, which may be refused.
+fn add_context(numbers: &mut Numbers, script: &mut String, h: u16) -> Result<(), AllocError> {
+    let task = if numbers.below(3) == 0 { 2 } else { 1 };
+    match numbers.below(7) {
+        0 => writeln!(script, "{task} select {h}"),
+        1 => writeln!(script, "{task} colour FF8000"),
+        2 => writeln!(script, "{task} bk_colour 0080FF"),
+        3 => writeln!(script, "{task} text_mode trans"),
+        4 => {
+            let font = numbers.below(2);
+            writeln!(script, "{task} font {font}")
+        }
+        5 => writeln!(script, "{task} save"),
+        _ => writeln!(script, "{task} restore"),
+    }
+}
+
+/// Adds a call that doesn't paint all: some do one job, some make an area invalid, some change what
+/// a task draws with, and the others make or change a window.
 fn add_call(numbers: &mut Numbers, script: &mut String, handles: u16) -> Result<(), AllocError>
     requires { 0 < handles }
 {
-    match numbers.below(10) {
+    match numbers.below(11) {
         0 => script.push_str("1 exec1\n"),
         1 => {
             let (x, y) = place(numbers);
@@ -104,6 +121,10 @@ fn add_call(numbers: &mut Numbers, script: &mut String, handles: u16) -> Result<
         4 | 5 | 6 => {
             let h = numbers.below(handles);
             add_look(numbers, script, h)
+        }
+        7 => {
+            let h = numbers.below(handles);
+            add_context(numbers, script, h)
         }
         _ => {
             let h = numbers.below(handles);

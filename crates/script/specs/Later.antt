@@ -23,9 +23,8 @@ later_words = codes "display viewer done"
 -- second words, after a task
 unfoldable pub later_calls : List ℕ
 later_calls =
-    codes "set_memdev select colour bk_colour text_mode font save " ++
-    codes "restore fill frame line bitmap text dev_create dev_delete dev_select dev_copy begin " ++
-    codes "end"
+    codes "set_memdev fill frame line bitmap text dev_create dev_delete dev_select dev_copy " ++
+    codes "begin end"
 
 -- the words after a task are of a call that isn't built
 abbrev pub is_later_call : List (List ℕ) → Bool

@@ -356,9 +356,10 @@ fn take_call(draft: &mut Draft, line: Line) -> Result<(), LineError>
     requires { IsTasks line }
     ensures { Takes result draft.new (after_call_line (draft_of draft.old) line) }
 {
-    let Line::Task { task, act } = line;
-    let locks = draft.locks[usize::from(task)];
-    if !may_act(locks, &act) {
+    let Line::Task { task, act } = &line;
+    let task = usize::from(*task);
+    let locks = draft.locks[task];
+    if !may_act(locks, act) {
         return Err(LineError::Wrong(Reason::Lock));
     }
     if draft.lines.len() >= MOST_LINES {
@@ -366,8 +367,8 @@ fn take_call(draft: &mut Draft, line: Line) -> Result<(), LineError>
     }
     match act {
         Act::Call(_) => {}
-        Act::Lock => draft.locks[usize::from(task)] = locks + 1,
-        Act::Unlock => draft.locks[usize::from(task)] = locks - 1,
+        Act::Lock => draft.locks[task] = locks + 1,
+        Act::Unlock => draft.locks[task] = locks - 1,
     }
     draft.lines.push(line)?;
     Ok(())

@@ -174,6 +174,15 @@ fn call_with(word: Word, args: &mut Args) -> Option<Call>
             message: args.byte()?,
             argument: args.number()?,
         }),
+        Word::Select => Some(Call::Select { h: args.handle()? }),
+        Word::Colour => Some(Call::Colour { c: args.colour()? }),
+        Word::BkColour => Some(Call::BkColour { c: args.colour()? }),
+        Word::TextMode => Some(Call::TextMode {
+            trans: args.choice(b"normal", b"trans")?,
+        }),
+        Word::Font => Some(Call::Font { font: args.byte()? }),
+        Word::Save => Some(Call::Save),
+        Word::Restore => Some(Call::Restore),
         Word::Invalidate => Some(Call::Invalidate { h: args.handle()? }),
         Word::InvalidateRect => Some(Call::InvalidateRect {
             h: args.handle()?,

@@ -55,18 +55,19 @@ pub type Faulty = (u32, Reason, &'static str, &'static str);
 /// Lines of the forms that aren't built: those with each first word, and those of a task with each
 /// word after it. What follows these words isn't looked at.
 const LATER: &str = "display tick\n|display|display x\n|viewer 1 join\n|viewer 9 x\n|viewer\n\
-    |viewer  1 take\n|done\n|done 1\n|done|1 set_memdev 0\n|1 select 2\n|1 colour FF0000\n\
-    |1 bk_colour -\n|1 text_mode trans\n|1 font 0\n|1 save\n|2 save x\n|1 save \n|16 restore\n\
+    |viewer  1 take\n|done\n|done 1\n|done|1 set_memdev 0\n|2 set_memdev x\n|1 set_memdev \n\
     |1 fill 0 0 1 1\n|1 frame 0 0 1 1\n|1 line 0 0 1 1\n|1 bitmap 0 0 0\n|1 text 0 0 0\n\
     |1 dev_create 2 2\n|1 dev_delete 2\n|1 dev_select 2\n|1 dev_copy 2 0 0\n|1 begin\n\
     |2 begin|1 end\n|16 end 1\n";
 
 /// Lines that nearly are of such forms, and lines of forms that are built. They go on with no font,
 /// bitmap or class.
-const NOT_LATER: &str = "0 save\n|17 begin\n|01 save\n|-1 end\n|save\n|1 Save\n|1 saves\n\
-    |1  save\n| 1 save\n|1\n|1 \n|Done\n|dones\n| done\n|displays tick\n|Viewer 1 join\n\
+const NOT_LATER: &str = "0 begin\n|17 begin\n|01 begin\n|-1 end\n|begin\n|1 Begin\n|1 begins\n\
+    |1  begin\n| 1 begin\n|1\n|1 \n|Done\n|dones\n| done\n|displays tick\n|Viewer 1 join\n\
     |1 display tick\n|1 viewer 1 join\n|1 tick\n|1 done\n|1 exec\n|16 scan|1 lock\n|1 unlock\n\
     |1 set_trans 2 1\n|1 set_value 2 0 1\n|1 send 2 1 1\n|1 hide x\n|1 jump\n|buffers 2\n\
+    |1 select 2\n|1 colour FF0000\n|1 bk_colour -\n|1 text_mode trans\n|1 font 0\n|1 save\n\
+    |2 save x\n|16 restore\n\
     |buffers 3\n|class 2 -\n|class 1 -\n|font 1 1\n|font 0 1\n|bitmap 0 1 1\n|string 0 a\n\
     |mtgui 1\n";
 
@@ -491,7 +492,7 @@ const IN_PICTURES: [Faulty; 17] = [
         8,
         Reason::Later,
         HEADER,
-        "font 0 1\nglyph 65 1\n#\n1 save\n|font 0 1\nglyph 65 1\n#\ndone|font 0 1\nglyph 65 1\n.\n\
+        "font 0 1\nglyph 65 1\n#\n1 begin\n|font 0 1\nglyph 65 1\n#\ndone|font 0 1\nglyph 65 1\n.\n\
         display tick\n|bitmap 0 1 2\n-\n-\n2 begin\n|bitmap 0 1 2\n-\n-\nviewer 1 join\n\
         |bitmap 0 1 2\n-\n-\n1 end\n|bitmap 0 1 3\n-\n-\n16 frame",
     ),
@@ -522,7 +523,7 @@ fn the_first_fault_of_fonts_and_bitmaps(rt: HostRuntime) {
 }
 
 /// Faults of call lines.
-const IN_CALLS: [Faulty; 12] = [
+const IN_CALLS: [Faulty; 17] = [
     // The task, and the form of a line.
     (
         5,
@@ -595,20 +596,60 @@ const IN_CALLS: [Faulty; 12] = [
         |1 send 2 1 \n|1 send 2 1 1 \n|1 send 2  1 1\n|1 send 02 1 1\n|1 send 4294967296 1 1\n\
         |1 sends 2 1 1\n|1 Send 2 1 1\n|01 send 2 1 1\n|send 2 1 1\n",
     ),
+    (
+        5,
+        Reason::Call,
+        HEADER,
+        "1 select\n|1 select \n|1 select -1\n|1 select 02\n|1 select 4294967296\n|1 select x\n\
+        |1 select 2 3\n|1 select 2 \n|1 select  2\n|1 Select 2\n|1 selects 2\n|0 select 2\n\
+        |17 select 2\n|select 2\n",
+    ),
+    (
+        5,
+        Reason::Call,
+        HEADER,
+        "1 colour\n|1 colour -\n|1 colour 0\n|1 colour FF000\n|1 colour FF00000\n\
+        |1 colour ff0000\n|1 colour G00000\n|1 colour FF0000 0\n|1 colour FF0000 \n\
+        |1 colour  FF0000\n|1 Colour FF0000\n|1 colours FF0000\n|01 colour FF0000\n\
+        |1 bk_colour\n|1 bk_colour -\n|1 bk_colour 0000fF\n|1 bk_colour 000000 1\n\
+        |1 bk_colour  000000\n|1 bkcolour 000000\n|1 bk colour 000000\n",
+    ),
+    (
+        5,
+        Reason::Call,
+        HEADER,
+        "1 text_mode\n|1 text_mode both\n|1 text_mode 0\n|1 text_mode 1\n|1 text_mode Trans\n\
+        |1 text_mode norma\n|1 text_mode transs\n|1 text_mode normal trans\n\
+        |1 text_mode trans \n|1 text_mode  trans\n|1 textmode trans\n|1 text_modes trans\n",
+    ),
+    (
+        5,
+        Reason::Call,
+        HEADER,
+        "1 font\n|1 font -1\n|1 font 256\n|1 font 00\n|1 font x\n|1 font 0 1\n|1 font 0 \n\
+        |1 font  0\n|1 Font 0\n|1 fonts 0\n|17 font 0\n",
+    ),
+    (
+        5,
+        Reason::Call,
+        HEADER,
+        "1 save 1\n|1 save \n|2 save x\n|1 saved\n|1 Save\n|1  save\n|0 save\n|17 save\n|01 save\n\
+        |save\n|1 restore 1\n|1 restore \n|1 restores\n|1 Restore\n|17 restore\n|restore\n",
+    ),
     // Not built yet.
     (5, Reason::Later, HEADER, LATER),
     (
         6,
         Reason::Later,
         HEADER,
-        "1 exec\n1 text\n|1 exec\ndone\n|1 lock\n1 save\n|1 lock\ndisplay tick|1 lock\n2 begin\n",
+        "1 exec\n1 text\n|1 exec\ndone\n|1 lock\n1 fill\n|1 lock\ndisplay tick|1 lock\n2 begin\n",
     ),
     // Other spellings of those.
     (
         5,
         Reason::Call,
         HEADER,
-        "0 save\n|17 save\n|01 save\n|save\n|1 Save\n|1 saves\n|1  save\n| 1 save\n|Done\n\
+        "0 begin\n|17 begin\n|01 begin\n|begin\n|1 Begin\n|1 begins\n|1  begin\n| 1 begin\n|Done\n\
         |displays tick\n|1 display tick\n|1 viewer 1 join\n| display tick\n",
     ),
     // Bytes that no line has.

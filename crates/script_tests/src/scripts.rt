@@ -64,7 +64,9 @@ const EACH_CALL: &str = "mtgui 1\nscreen 8 4\nbuffers 1\ndesktop 000000\n\
     4 move_by 3 -1 1\n5 resize 4 0 65535\n6 show 5\n7 hide 6\n8 to_top 7\n9 to_bottom 8\n\
     10 set_class 9 1\n11 set_trans 10 1\n12 set_trans 11 0\n13 set_value 12 255 -32768\n\
     14 send 13 255 32767\n15 invalidate 14\n16 invalidate_rect 15 1 2 3 4\n\
-    1 invalidate_area -1 -2 3 4\n2 exec\n3 exec1\n4 scan\n";
+    1 invalidate_area -1 -2 3 4\n2 exec\n3 exec1\n4 scan\n5 select 16\n6 colour FF8001\n\
+    7 bk_colour 0180FF\n8 text_mode normal\n9 text_mode trans\n10 font 255\n11 save\n\
+    12 restore\n";
 
 #[test]
 fn each_word_is_its_call(rt: HostRuntime) {
@@ -131,6 +133,18 @@ fn each_word_is_its_call(rt: HostRuntime) {
         Call::Exec,
         Call::Exec1,
         Call::Scan,
+        Call::Select { h: 16 },
+        Call::Colour {
+            c: colour(0xFF_8001),
+        },
+        Call::BkColour {
+            c: colour(0x01_80FF),
+        },
+        Call::TextMode { trans: false },
+        Call::TextMode { trans: true },
+        Call::Font { font: 255 },
+        Call::Save,
+        Call::Restore,
     ];
     let mut task = 0u16;
     for (read, call) in script.lines.iter().zip(&calls) {
@@ -142,7 +156,7 @@ fn each_word_is_its_call(rt: HostRuntime) {
 
 /// Texts of the least and the greatest numbers, with the screen's sides, the desktop's colour and
 /// the number of calls.
-const ENDS_OF_RANGES: [(&str, u16, u16, u32, u32); 8] = [
+const ENDS_OF_RANGES: [(&str, u16, u16, u32, u32); 9] = [
     (
         "mtgui 1\nscreen 1 1\nbuffers 1\ndesktop FFFFFF",
         1,
@@ -187,6 +201,15 @@ const ENDS_OF_RANGES: [(&str, u16, u16, u32, u32); 8] = [
         4,
         0,
         6,
+    ),
+    (
+        "mtgui 1\nscreen 8 4\nbuffers 1\ndesktop 000000\n1 select 0\n1 select 4294967295\n\
+        1 colour 000000\n1 colour FFFFFF\n1 bk_colour 000000\n1 bk_colour FFFFFF\n1 font 0\n\
+        16 font 255",
+        8,
+        4,
+        0,
+        8,
     ),
     // Lines on the lock are no calls.
     (

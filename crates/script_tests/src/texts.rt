@@ -112,7 +112,7 @@ const CREATE: Call = Call::Create {
 };
 
 /// Calls, what they are answered, and the answer's line.
-const ANSWERS: [(Call, Reply, &str); 10] = [
+const ANSWERS: [(Call, Reply, &str); 13] = [
     (Call::Exec, Reply::Done, "ok\n"),
     (CREATE, Reply::Handle(70_000), "ok 70000\n"),
     (Call::Exec, Reply::Jobs(12), "ok 12\n"),
@@ -146,6 +146,21 @@ const ANSWERS: [(Call, Reply, &str); 10] = [
         CREATE,
         Reply::Refused(Refusal::TooManyWindows),
         "refused TooManyWindows\n",
+    ),
+    (
+        Call::Font { font: 255 },
+        Reply::Refused(Refusal::NoFont(255)),
+        "refused NoFont 255\n",
+    ),
+    (
+        Call::Save,
+        Reply::Refused(Refusal::ContextDepth),
+        "refused ContextDepth\n",
+    ),
+    (
+        Call::Restore,
+        Reply::Refused(Refusal::NoContext),
+        "refused NoContext\n",
     ),
 ];
 

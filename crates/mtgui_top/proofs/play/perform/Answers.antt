@@ -1,7 +1,9 @@
 use Rattle.std.proofs.Common.{◌≡◌, List, ℕ, length, Result, sym, subst, ap, ◌∙◌}
 use Rattle.std.proofs.lemmas.Result.{err_from_is_err_and}
+use Rattle.calls.specs.declared.line.Line.{Line}
 use Rattle.outside.specs.Logs.{SinkLog, Wrote}
 use Rattle.outside.proofs.CallerLemmas.{Partly-step, Partly-broken, Partly-left, Partly-last}
+use Rattle.mtgui_top.specs.Machines.{LineDone}
 use Rattle.mtgui_top.proofs.PlayLemmas.{stepped, all-made, replies-step, counted-more, after_lines-more, replies-all, summary-last}
 use Rattle.mtgui_top.proofs.play.perform.Goals as goal
 
@@ -13,23 +15,24 @@ loop-line-preserved g c =
     let setup = c.args.gui.now.setup in
     let old = c.loop-line.gui in
     let new = c.perform_line.new.gui in
-    let done = c.perform_line.ensures.gui in
+    let line = c.line-item.result in
+    let done = subst (λ (l : Line). LineDone old l new) c.line-item.is c.perform_line.ensures.gui in
     let lines = c.args.lines.now in
     let i = c.loop-line.line-index in
     let kept = c.loop-line.invariant in
     record {
       setup = done.setup ∙ kept.setup;
-      made = all-made old new lines i _ _ c.loop-line-test.true done kept.made;
-      refused = counted-more setup old new lines i _ _ c.loop-line-test.true kept.setup done kept.refused;
-      last = sym (after_lines-more setup old.state new.state lines i _ c.loop-line-test.true (stepped setup old new _ kept.setup done)) ∙ kept.last;
-      wrote = Partly-step _ _ _ _ _ _ _ kept.wrote (replies-step setup old new lines i _ _ c.loop-line-test.true kept.setup done) c.in_ok-perform_line.ensures.wrote;
+      made = all-made old new lines i line _ c.loop-line-test.true done kept.made;
+      refused = counted-more setup old new lines i line _ c.loop-line-test.true kept.setup done kept.refused;
+      last = sym (after_lines-more setup old.state new.state lines i line c.loop-line-test.true (stepped setup old new _ kept.setup done)) ∙ kept.last;
+      wrote = Partly-step _ _ _ _ _ _ _ kept.wrote (replies-step setup old new lines i line _ c.line-item.is c.loop-line-test.true kept.setup c.perform_line.ensures.gui) c.in_ok-perform_line.ensures.wrote;
     }
 
 pub returns-in_err-perform_line : goal.returns-in_err-perform_line
 returns-in_err-perform_line g c =
     let p = err_from_is_err_and c.from_residual.result c.from_residual.ensures.1 in
     let kept = c.loop-line.invariant in
-    rw p.1 (Partly-broken _ _ _ _ _ _ _ kept.wrote (replies-step c.args.gui.now.setup c.loop-line.gui c.perform_line.new.gui c.args.lines.now c.loop-line.line-index _ _ c.loop-line-test.true kept.setup c.perform_line.ensures.gui) c.in_err-perform_line.ensures.wrote)
+    rw p.1 (Partly-broken _ _ _ _ _ _ _ kept.wrote (replies-step c.args.gui.now.setup c.loop-line.gui c.perform_line.new.gui c.args.lines.now c.loop-line.line-index c.line-item.result _ c.line-item.is c.loop-line-test.true kept.setup c.perform_line.ensures.gui) c.in_err-perform_line.ensures.wrote)
 
 pub returns : goal.returns
 returns g c =

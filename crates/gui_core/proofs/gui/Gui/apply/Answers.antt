@@ -9,7 +9,7 @@ pub returns-in-Refused-clause-answers : goal.returns-in-Refused-clause-answers
 returns-in-Refused-clause-answers c =
     let m : Machine = record {
       setup = record { config = c.self.inside.config; assets = c.self.inside.assets };
-      state = record { windows = c.self.inside.windows.windows; handles = c.self.inside.windows.handles; shown = c.self.inside.shown.picture };
+      state = record { windows = c.self.inside.windows.windows; handles = c.self.inside.windows.handles; shown = c.self.inside.shown.picture; contexts = c.self.inside.contexts };
       made = c.self.inside.made + 1;
       refused = c.self.inside.refused;
     } in
@@ -21,7 +21,7 @@ pub returns-in_default : goal.returns-in_default
 returns-in_default c =
     let m : Machine = record {
       setup = record { config = c.self.inside.config; assets = c.self.inside.assets };
-      state = record { windows = c.self.inside.windows.windows; handles = c.self.inside.windows.handles; shown = c.self.inside.shown.picture };
+      state = record { windows = c.self.inside.windows.windows; handles = c.self.inside.windows.handles; shown = c.self.inside.shown.picture; contexts = c.self.inside.contexts };
       made = c.self.inside.made + 1;
       refused = c.self.inside.refused;
     } in

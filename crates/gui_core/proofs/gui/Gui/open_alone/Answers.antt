@@ -3,10 +3,10 @@ use Rattle.gui_core.specs.Machines.{Machine, starting}
 use Rattle.gui_core.proofs.CallLemmas.{kept-starting, black, started}
 use Rattle.gui_core.proofs.gui.Gui.open_alone.Goals as goal
 
-opened : (c : goal.After-with_desktop-assets) → ◌≡◌ {A = Machine} (record { setup = record { config = c.args.config; assets = c.with_desktop-assets.result }; state = record { windows = c.in_ok-windows.windows.windows; handles = c.in_ok-windows.windows.handles; shown = c.in_ok-shown.shown.picture }; made = 0; refused = 0 }) (starting c.args.assets c.args.config)
+opened : (c : goal.After-new-contexts) → ◌≡◌ {A = Machine} (record { setup = record { config = c.args.config; assets = c.with_desktop-assets.result }; state = record { windows = c.in_ok-windows.windows.windows; handles = c.in_ok-windows.windows.handles; shown = c.in_ok-shown.shown.picture; contexts = c.new-contexts.result }; made = 0; refused = 0 }) (starting c.args.assets c.args.config)
 opened c =
-    started c.args.assets c.with_desktop-assets.result c.args.config c.in_ok-shown.shown.picture c.in_ok-windows.windows c.with_desktop-assets.ensures
-    (black c.args.config.w c.args.config.h c.in_ok-shown.shown.picture c.in_ok-shown.ensures.width c.in_ok-shown.ensures.height c.in_ok-shown.ensures.black) c.in_ok-windows.ensures
+    started c.args.assets c.with_desktop-assets.result c.args.config c.in_ok-shown.shown.picture c.in_ok-windows.windows c.new-contexts.result c.with_desktop-assets.ensures
+    (black c.args.config.w c.args.config.h c.in_ok-shown.shown.picture c.in_ok-shown.ensures.width c.in_ok-shown.ensures.height c.in_ok-shown.ensures.black) c.in_ok-windows.ensures c.new-contexts.ensures
 
 pub invariant_of-result : goal.invariant_of-result
 invariant_of-result c =

@@ -1,0 +1,116 @@
+//! Calls on what a task draws with.
+
+ghost use Rattle.std.specs.Prelude.{◌≡◌, ◌≤◌, []};
+ghost use Rattle.context.specs.Contexts.{owned_by};
+ghost use Rattle.gui_core.specs.Changes.{context_call};
+ghost use Rattle.gui_core.specs.Refusals.{Alters};
+ghost use Rattle.gui_core.specs.States.{refusal_of, context_objections, context_after};
+
+use crate::windows::Windows;
+use calls::Refusal;
+use context::{ContextDepth, Contexts, NoContext};
+use gfx_base::Colour;
+
+/// What a call does to the context of its task.
+#[derive(Clone, Copy)]
+pub enum ContextChange {
+    Select { h: u32 },
+    Colour { c: Colour },
+    BkColour { c: Colour },
+    TextMode { trans: bool },
+    Font { font: u8 },
+    Save,
+    Restore,
+}
+
+/// Selects a window that lives.
+fn select(contexts: &mut Contexts, task: u16, h: u32, windows: &Windows) -> Result<(), Refusal>
+    requires { (1 ≤ task) × (task ≤ 16) }
+    ensures { let call = context_call (ContextChange.Select h) in
+        let own = owned_by contexts.old task in
+        Alters result (refusal_of (context_objections 0 windows.now.windows own call))
+        (context_after own call) task contexts.old contexts.new }
+{
+    if !windows.has(h) {
+        return Err(Refusal::NoWindow(h));
+    }
+    contexts.get_mut(task).window = h;
+    Ok(())
+}
+
+/// Gives a task's context a font, where there are so many.
+fn set_font(contexts: &mut Contexts, task: u16, font: u8, fonts: usize) -> Result<(), Refusal>
+    requires { (1 ≤ task) × (task ≤ 16) }
+    ensures { let call = context_call (ContextChange.Font font) in
+        let own = owned_by contexts.old task in
+        Alters result (refusal_of (context_objections fonts [] own call))
+        (context_after own call) task contexts.old contexts.new }
+{
+    if usize::from(font) >= fonts {
+        return Err(Refusal::NoFont(font));
+    }
+    contexts.get_mut(task).font = font;
+    Ok(())
+}
+
+/// Saves a task's context.
+fn save(contexts: &mut Contexts, task: u16) -> Result<(), Refusal>
+    requires { (1 ≤ task) × (task ≤ 16) }
+    ensures { let call = context_call ContextChange.Save in
+        let own = owned_by contexts.old task in
+        Alters result (refusal_of (context_objections 0 [] own call))
+        (context_after own call) task contexts.old contexts.new }
+{
+    match contexts.save(task) {
+        Ok(()) => Ok(()),
+        Err(ContextDepth) => Err(Refusal::ContextDepth),
+    }
+}
+
+/// Gives the context back that a task saved last.
+fn restore(contexts: &mut Contexts, task: u16) -> Result<(), Refusal>
+    requires { (1 ≤ task) × (task ≤ 16) }
+    ensures { let call = context_call ContextChange.Restore in
+        let own = owned_by contexts.old task in
+        Alters result (refusal_of (context_objections 0 [] own call))
+        (context_after own call) task contexts.old contexts.new }
+{
+    match contexts.restore(task) {
+        Ok(()) => Ok(()),
+        Err(NoContext) => Err(Refusal::NoContext),
+    }
+}
+
+/// Changes the context of a task, which is from 1 to 16, where there are so many fonts.
+pub fn change_context(
+    contexts: &mut Contexts,
+    task: u16,
+    change: ContextChange,
+    windows: &Windows,
+    fonts: usize,
+) -> Result<(), Refusal>
+    requires { (1 ≤ task) × (task ≤ 16) }
+    ensures { let call = context_call change in
+        let own = owned_by contexts.old task in
+        Alters result (refusal_of (context_objections fonts windows.now.windows own call))
+        (context_after own call) task contexts.old contexts.new }
+{
+    match change {
+        ContextChange::Select { h } => select(contexts, task, h, windows),
+        ContextChange::Colour { c } => {
+            contexts.get_mut(task).colour = c;
+            Ok(())
+        }
+        ContextChange::BkColour { c } => {
+            contexts.get_mut(task).bk = c;
+            Ok(())
+        }
+        ContextChange::TextMode { trans } => {
+            contexts.get_mut(task).trans_text = trans;
+            Ok(())
+        }
+        ContextChange::Font { font } => set_font(contexts, task, font, fonts),
+        ContextChange::Save => save(contexts, task),
+        ContextChange::Restore => restore(contexts, task),
+    }
+}
