@@ -69,6 +69,11 @@ row_of word.TextMode = row (codes "text_mode") (text_mode ∷ []) call.TextMode
 row_of word.Font = row (codes "font") (byte ∷ []) call.Font
 row_of word.Save = row (codes "save") [] call.Save
 row_of word.Restore = row (codes "restore") [] call.Restore
+row_of word.Fill = row (codes "fill") (Number ∷ Number ∷ Number ∷ Number ∷ []) call.Fill
+row_of word.Frame = row (codes "frame") (Number ∷ Number ∷ Number ∷ Number ∷ []) call.Frame
+row_of word.Line = row (codes "line") (Number ∷ Number ∷ Number ∷ Number ∷ []) call.Line
+row_of word.Bitmap = row (codes "bitmap") (byte ∷ Number ∷ Number ∷ []) call.Bitmap
+row_of word.Text = row (codes "text") (Number ∷ Number ∷ byte ∷ []) call.Text
 row_of word.Invalidate = row (codes "invalidate") (handle ∷ []) call.Invalidate
 row_of word.InvalidateRect =
     row (codes "invalidate_rect") (handle ∷ Number ∷ Number ∷ Number ∷ Number ∷ [])
@@ -88,8 +93,9 @@ all_words =
     word.Create ∷ word.Delete ∷ word.MoveTo ∷ word.MoveBy ∷ word.Resize ∷ word.Show ∷ word.Hide
     ∷ word.ToTop ∷ word.ToBottom ∷ word.SetClass ∷ word.SetTrans ∷ word.SetValue ∷ word.Send
     ∷ word.Select ∷ word.Colour ∷ word.BkColour ∷ word.TextMode ∷ word.Font ∷ word.Save
-    ∷ word.Restore ∷ word.Invalidate ∷ word.InvalidateRect ∷ word.InvalidateArea ∷ word.Exec
-    ∷ word.Exec1 ∷ word.Scan ∷ []
+    ∷ word.Restore ∷ word.Fill ∷ word.Frame ∷ word.Line ∷ word.Bitmap ∷ word.Text
+    ∷ word.Invalidate ∷ word.InvalidateRect ∷ word.InvalidateArea ∷ word.Exec ∷ word.Exec1
+    ∷ word.Scan ∷ []
 
 -- ---- the text of a call line
 
@@ -122,6 +128,11 @@ said (call.TextMode trans) = say word.TextMode trans
 said (call.Font font) = say word.Font font
 said call.Save = say word.Save
 said call.Restore = say word.Restore
+said (call.Fill x0 y0 x1 y1) = say word.Fill x0 y0 x1 y1
+said (call.Frame x0 y0 x1 y1) = say word.Frame x0 y0 x1 y1
+said (call.Line x0 y0 x1 y1) = say word.Line x0 y0 x1 y1
+said (call.Bitmap bitmap x y) = say word.Bitmap bitmap x y
+said (call.Text x y string) = say word.Text x y string
 said (call.Invalidate h) = say word.Invalidate h
 said (call.InvalidateRect h x0 y0 x1 y1) = say word.InvalidateRect h x0 y0 x1 y1
 said (call.InvalidateArea x0 y0 x1 y1) = say word.InvalidateArea x0 y0 x1 y1

@@ -5,7 +5,8 @@ use gfx_base::Colour;
 
 /// A call of the core. A window is named by its handle. Places, sides and differences are in
 /// points; a window's place is told from its parent's upper left corner. A task's context is what
-/// it draws with.
+/// it draws with. Calls that draw tell places from the upper left corner of the window that the
+/// context selects.
 #[derive(Clone, Copy, Debug, PartialEq, Eq)]
 pub enum Call {
     /// Makes a window in its parent, on top of the parent's children, of the class of this number.
@@ -101,6 +102,39 @@ pub enum Call {
     Save,
     /// Gives the context back that the task saved last.
     Restore,
+    /// Fills a rectangle of the window with the context's colour.
+    Fill {
+        x0: i16,
+        y0: i16,
+        x1: i16,
+        y1: i16,
+    },
+    /// Draws the edges of a rectangle in that colour.
+    Frame {
+        x0: i16,
+        y0: i16,
+        x1: i16,
+        y1: i16,
+    },
+    /// Draws the straight line between two places in that colour.
+    Line {
+        x0: i16,
+        y0: i16,
+        x1: i16,
+        y1: i16,
+    },
+    /// Draws the bitmap of this number, its upper left corner at a place.
+    Bitmap {
+        bitmap: u8,
+        x: i16,
+        y: i16,
+    },
+    /// Writes the string of this number from a place, in the context's colours and font.
+    Text {
+        x: i16,
+        y: i16,
+        string: u8,
+    },
     /// Makes all of a window invalid.
     Invalidate {
         h: u32,

@@ -21,6 +21,10 @@ pub enum Refusal {
     ContextDepth,
     /// The task has no context saved.
     NoContext,
+    /// There is no bitmap of this number.
+    NoBitmap(u8),
+    /// There is no string of this number.
+    NoText(u8),
 }
 
 /// What a call is answered.

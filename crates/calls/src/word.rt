@@ -24,6 +24,11 @@ pub enum Word {
     Font,
     Save,
     Restore,
+    Fill,
+    Frame,
+    Line,
+    Bitmap,
+    Text,
     Invalidate,
     InvalidateRect,
     InvalidateArea,
@@ -33,7 +38,7 @@ pub enum Word {
 }
 
 /// The words that name calls.
-const WORDS: [Word; 26] = [
+const WORDS: [Word; 31] = [
     Word::Create,
     Word::Delete,
     Word::MoveTo,
@@ -54,6 +59,11 @@ const WORDS: [Word; 26] = [
     Word::Font,
     Word::Save,
     Word::Restore,
+    Word::Fill,
+    Word::Frame,
+    Word::Line,
+    Word::Bitmap,
+    Word::Text,
     Word::Invalidate,
     Word::InvalidateRect,
     Word::InvalidateArea,
@@ -89,6 +99,11 @@ impl Word {
             Word::Font => b"font",
             Word::Save => b"save",
             Word::Restore => b"restore",
+            Word::Fill => b"fill",
+            Word::Frame => b"frame",
+            Word::Line => b"line",
+            Word::Bitmap => b"bitmap",
+            Word::Text => b"text",
             Word::Invalidate => b"invalidate",
             Word::InvalidateRect => b"invalidate_rect",
             Word::InvalidateArea => b"invalidate_area",

@@ -3,6 +3,7 @@
 use mtgui_top::{end, plain_words};
 use outside::{MemSink, MemStore, NamedFile};
 use std::alloc::Global;
+use std::process::Abort;
 use std::str;
 use std::test::*;
 
@@ -56,6 +57,16 @@ pub fn written(alloc: Global, words: &str, text: &str) -> Result<(u8, MemSink), 
     let mut out = sink_of(alloc, ROOM, &[])?;
     let status = status_of(alloc, words, store_of(alloc, text, &[])?, &mut out)?;
     Ok((status, out))
+}
+
+/// Checks that `play` ends with status 0 on each text, and what it writes then.
+pub fn check_played(rt: &impl Abort, alloc: Global, rows: &[(&str, &str)]) -> Result<(), Fail> {
+    for &(text, bytes) in rows {
+        let (status, out) = written(alloc, "play F", text)?;
+        assert_eq!(rt; status, 0, "{text}");
+        assert_eq!(rt; str::from_utf8(out.bytes())?, bytes, "{text}");
+    }
+    Ok(())
 }
 
 #[test]

@@ -1,6 +1,6 @@
 //! Scripts whose tasks change what they draw with: all that is written of them.
 
-use crate::commands::written;
+use crate::commands::{check_played, written};
 use std::str;
 use std::test::*;
 
@@ -67,12 +67,7 @@ fn calls_on_contexts_are_played(rt: HostRuntime) -> Result<(), Fail> {
             "ok\nok\nok\nok\nrefused NoContext\ndone calls 5 refused 1 shown 0 windows 1\n",
         ),
     ];
-    for (text, bytes) in rows {
-        let (status, out) = written(rt.alloc(), "play F", text)?;
-        assert_eq!(rt; status, 0, "{text}");
-        assert_eq!(rt; str::from_utf8(out.bytes())?, bytes, "{text}");
-    }
-    Ok(())
+    check_played(&rt, rt.alloc(), &rows)
 }
 
 #[test]

@@ -9,6 +9,8 @@ mod contexts;
 #[cfg(test)]
 mod session;
 #[cfg(test)]
+mod shapes;
+#[cfg(test)]
 mod values;
 #[cfg(test)]
 mod windows;

@@ -1,7 +1,7 @@
 //! Scripts whose windows have values, react to messages and are seen through, and scripts with
 //! lines on the lock: all that is written of them.
 
-use crate::commands::written;
+use crate::commands::{check_played, written};
 use std::str;
 use std::test::*;
 
@@ -172,12 +172,7 @@ fn values_messages_and_locks_are_played(rt: HostRuntime) -> Result<(), Fail> {
             "done calls 0 refused 0 shown 0 windows 1\n",
         ),
     ];
-    for (text, bytes) in rows {
-        let (status, out) = written(rt.alloc(), "play F", text)?;
-        assert_eq!(rt; status, 0, "{text}");
-        assert_eq!(rt; str::from_utf8(out.bytes())?, bytes, "{text}");
-    }
-    Ok(())
+    check_played(&rt, rt.alloc(), &rows)
 }
 
 #[test]

@@ -11,26 +11,32 @@ use Rattle.paint_ops.specs.declared.op.Op.{Op}
 use Rattle.paint_ops.specs.declared.op.Op.TheVariants as op
 use Rattle.paint_ops.specs.Kinds.{Class, Assets}
 use Rattle.paint_ops.specs.Soundness.{IsOperation, IsClass, IsSound}
+use Rattle.context.specs.declared.context.Context.{Context}
 use Rattle.context.specs.Contexts.{Owned, first_contexts, owned_by}
 use Rattle.scene.specs.declared.win.Win.{Win}
+use Rattle.strokes.specs.declared.shape.Shape.{Shape}
 use Rattle.calls.specs.declared.config.Config.{Config}
 use Rattle.calls.specs.declared.call.Call.{Call}
 use Rattle.calls.specs.declared.reply.Reply.{Reply}
 use Rattle.calls.specs.declared.reply.Reply.TheVariants.{Done, Handle, Jobs, Refused}
 use Rattle.calls.specs.declared.reply.Refusal.{Refusal}
 use Rattle.gui_core.specs.Setups.{Setup, classes_with_desktop, assets_with_desktop, setup_for, screen_of}
-use Rattle.scene.specs.Looks.{screen_with}
+use Rattle.scene.specs.Looks.{screen_with, looks_of as looks_on}
+use Rattle.scene.specs.Painting.{Looks}
 use Rattle.scene.specs.Stacks.{has_ancestors, IsShallow}
 use Rattle.win_tree.specs.Trees.{Scene}
 use Rattle.gui_core.specs.Scenes.{IsScene}
 use Rattle.gui_core.specs.Windows.{after_change}
-use Rattle.gui_core.specs.Refusals.{Performs, Creates, Alters, answered}
+use Rattle.gui_core.specs.Refusals.{Performs, Creates, Alters, Draws, answered}
+use Rattle.gui_core.specs.Changes.{stroke_call}
+use Rattle.gui_core.specs.Drawing.{with_stroke, after_stroke}
 use Rattle.gui_core.proofs.KeptLemmas.{kept-with, kept-windows}
 use Rattle.gui_core.proofs.SceneLemmas.{scene_after, scene_created}
-use Rattle.gui_core.proofs.EffectLemmas.{may_be_made, is_new}
+use Rattle.gui_core.proofs.EffectLemmas.{IsOnWindows, draws_it, may_be_made, is_new}
+use Rattle.gui_core.proofs.StrokeLemmas.{width-stroke, height-stroke}
 use Rattle.calls.specs.declared.call.Call.TheVariants.{Create}
 use Rattle.scene.specs.Families.{new_window, desktop_with, on_top_of}
-use Rattle.gui_core.specs.States.{State, Step, opening, is_context_call, objections, objections_to, refusal_of, unless_refused, with_windows, effect, effect_of, context_objections, context_after, step_of_call, step, is_refused}
+use Rattle.gui_core.specs.States.{State, Step, opening, is_context_call, objections, objections_to, refusal_of, unless_refused, with_windows, effect, effect_of, stroke_objections, context_objections, context_after, step_of_call, step, is_refused}
 use Rattle.gui_core.specs.Machines.{Machine, IsConfig, IsKept, Takes, TakesAlike, Answers, starting}
 
 -- ---- one call
@@ -93,6 +99,22 @@ with_contexts m contexts = record m { state = record m.state { contexts = contex
 abbrev pub context_reason : Machine → ℕ → Call → Option Refusal
 context_reason m task call = refusal_of (context_objections (length m.setup.assets.fonts) m.state.windows (owned_by m.state.contexts task) call)
 
+-- the core with another picture
+abbrev pub with_picture : Machine → Picture → Machine
+with_picture m p = record m { state = record m.state { shown = p } }
+
+-- the first reason against a stroke with a context
+abbrev pub stroke_reason : Machine → Context → Shape → Option Refusal
+stroke_reason m c s = refusal_of (stroke_objections m.setup.assets m.state.windows c s)
+
+-- the picture with that stroke
+abbrev pub picture_after : Machine → Context → Shape → Picture
+picture_after m c s = after_stroke m.setup m.state.windows c s m.state.shown
+
+-- what a task draws with
+abbrev pub context_of : Machine → ℕ → Context
+context_of m task = (owned_by m.state.contexts task).context
+
 -- the windows with a new one
 abbrev pub made_windows : Machine → ℕ → ℤ → ℤ → ℕ → ℕ → ℕ → List Win
 made_windows m parent x y w h class =
@@ -105,28 +127,28 @@ performed m call (Ok done) now new kept p scene =
 performed m call (Err refusal) now new kept p scene = subst (λ (s : Scene). IsKept (with_scene m s)) (sym p.1) kept
 
 -- a call on windows is made by any actor alike
-of_windows : (m : Machine) (actor : ℕ) (call : Call) → is_context_call call ≡ false → refusal_of (objections_to m.setup m.state actor call) ≡ reason_of m call
-of_windows m actor call other = rw other refl
+of_windows : (m : Machine) (actor : ℕ) (call : Call) → IsOnWindows call → refusal_of (objections_to m.setup m.state actor call) ≡ reason_of m call
+of_windows m actor call on = rw (on.0, on.1) refl
 
-does_to_windows : (m : Machine) (actor : ℕ) (call : Call) → is_context_call call ≡ false → effect_of m.setup m.state actor call ≡ effect m.setup m.state call
-does_to_windows m actor call other = rw other refl
+does_to_windows : (m : Machine) (actor : ℕ) (call : Call) → IsOnWindows call → effect_of m.setup m.state actor call ≡ effect m.setup m.state call
+does_to_windows m actor call on = rw (on.0, on.1) refl
 
-pub done : (m : Machine) (actor : ℕ) (call : Call) (now : List Win) (new : Scene) → is_context_call call ≡ false → reason_of m call ≡ None → new ≡ record (scene_of m) { windows = now } → ◌≡◌ {A = Step} (with_windows m.state now) (effect m.setup m.state call) → Takes m actor call (with_scene m new) Done
-done m actor call now new other fine is does = done_takes m (with_scene m new) actor call Done (record m.state { windows = now }) (of_windows m actor call other ∙ fine) (ap (with_scene m) is) (does ∙ sym (does_to_windows m actor call other))
+pub done : (m : Machine) (actor : ℕ) (call : Call) (now : List Win) (new : Scene) → IsOnWindows call → reason_of m call ≡ None → new ≡ record (scene_of m) { windows = now } → ◌≡◌ {A = Step} (with_windows m.state now) (effect m.setup m.state call) → Takes m actor call (with_scene m new) Done
+done m actor call now new on fine is does = done_takes m (with_scene m new) actor call Done (record m.state { windows = now }) (of_windows m actor call on ∙ fine) (ap (with_scene m) is) (does ∙ sym (does_to_windows m actor call on))
 
-pub refused : (m : Machine) (actor : ℕ) (call : Call) (refusal : Refusal) (new : Scene) → is_context_call call ≡ false → reason_of m call ≡ Some refusal → new ≡ scene_of m → Takes m actor call (with_scene m new) (Refused refusal)
-refused m actor call refusal new other why is =
-    subst (λ (s : Scene). Takes m actor call (with_scene m s) (Refused refusal)) (sym is) (refused_takes m actor call refusal (of_windows m actor call other ∙ why))
+pub refused : (m : Machine) (actor : ℕ) (call : Call) (refusal : Refusal) (new : Scene) → IsOnWindows call → reason_of m call ≡ Some refusal → new ≡ scene_of m → Takes m actor call (with_scene m new) (Refused refusal)
+refused m actor call refusal new on why is =
+    subst (λ (s : Scene). Takes m actor call (with_scene m s) (Refused refusal)) (sym is) (refused_takes m actor call refusal (of_windows m actor call on ∙ why))
 
-pub answers : (m : Machine) (actor : ℕ) (call : Call) (r : Result (Unit {0}) Refusal) (now : List Win) (new : Scene) → is_context_call call ≡ false → Performs r (reason_of m call) now (scene_of m) new → ◌≡◌ {A = Step} (with_windows m.state now) (effect m.setup m.state call) → Takes m actor call (with_scene m new) (answered r)
-answers m actor call (Ok d) now new other p does = done m actor call now new other p.0 p.1 does
-answers m actor call (Err refusal) now new other p does = refused m actor call refusal new other p.0 p.1
+pub answers : (m : Machine) (actor : ℕ) (call : Call) (r : Result (Unit {0}) Refusal) (now : List Win) (new : Scene) → IsOnWindows call → Performs r (reason_of m call) now (scene_of m) new → ◌≡◌ {A = Step} (with_windows m.state now) (effect m.setup m.state call) → Takes m actor call (with_scene m new) (answered r)
+answers m actor call (Ok d) now new on p does = done m actor call now new on p.0 p.1 does
+answers m actor call (Err refusal) now new on p does = refused m actor call refusal new on p.0 p.1
 
 -- the same, told of the machine that the call found, and of the reply
-pub replied : (old m : Machine) (actor : ℕ) (call : Call) (r : Result (Unit {0}) Refusal) (now : List Win) (new : Scene) (reply : Reply) → is_context_call call ≡ false → m ≡ old → reply ≡ answered r → Performs r (reason_of m call) now (scene_of m) new → ◌≡◌ {A = Step} (with_windows m.state now) (effect m.setup m.state call) → Takes old actor call (with_scene m new) reply
-replied old m actor call r now new reply other is said p does =
+pub replied : (old m : Machine) (actor : ℕ) (call : Call) (r : Result (Unit {0}) Refusal) (now : List Win) (new : Scene) (reply : Reply) → IsOnWindows call → m ≡ old → reply ≡ answered r → Performs r (reason_of m call) now (scene_of m) new → ◌≡◌ {A = Step} (with_windows m.state now) (effect m.setup m.state call) → Takes old actor call (with_scene m new) reply
+replied old m actor call r now new reply on is said p does =
     subst (λ (a : Reply). Takes old actor call (with_scene m new) a) (sym said)
-    (subst (λ (k : Machine). Takes k actor call (with_scene m new) (answered r)) is (answers m actor call r now new other p does))
+    (subst (λ (k : Machine). Takes k actor call (with_scene m new) (answered r)) is (answers m actor call r now new on p does))
 
 -- the same for a call on a context
 altered : (m : Machine) (task : ℕ) (call : Call) (r : Result (Unit {0}) Refusal) (new : List Owned) → is_context_call call ≡ true → Alters r (context_reason m task call) (context_after (owned_by m.state.contexts task) call) task m.state.contexts new → Takes m task call (with_contexts m new) (answered r)
@@ -138,6 +160,35 @@ pub context_replied : (old m : Machine) (task : ℕ) (call : Call) (r : Result (
 context_replied old m task call r new reply is same said p =
     subst (λ (a : Reply). Takes old task call (with_contexts m new) a) (sym said)
     (subst (λ (k : Machine). Takes k task call (with_contexts m new) (answered r)) same (altered m task call r new is p))
+
+-- a stroke on the windows that are lent, on a picture of the screen's sides
+pub drawn : (m : Machine) (c : Context) (s : Shape) (lent : List Win) (r : Result (Unit {0}) Refusal) (new : Picture) → IsKept m → lent ≡ m.state.windows → let old = m.state.shown in
+    Draws r (refusal_of (stroke_objections m.setup.assets lent c s)) (with_stroke m.setup.assets (looks_on m.setup.assets (screen_with old.width old.height) lent) lent c s old) old new → Draws r (stroke_reason m c s) (picture_after m c s) old new
+drawn m c s lent r new kept same p =
+    let setup = m.setup in
+    let ws = m.state.windows in
+    let old = m.state.shown in
+    let looks = ap (λ (n : ℕ). looks_on setup.assets (screen_with n old.height) ws) kept.width ∙ ap (λ (n : ℕ). looks_on setup.assets (screen_with setup.config.w n) ws) kept.height in
+    subst (λ (seen : Looks). Draws r (stroke_reason m c s) (with_stroke setup.assets seen ws c s old) old new) looks (rw same at p)
+
+-- the same for a stroke
+stroked : (m : Machine) (task : ℕ) (s : Shape) (r : Result (Unit {0}) Refusal) (new : Picture) → Draws r (stroke_reason m (context_of m task) s) (picture_after m (context_of m task) s) m.state.shown new → Takes m task (stroke_call s) (with_picture m new) (answered r)
+stroked m task s (Ok d) new p = let is = draws_it s in done_takes m (with_picture m new) task (stroke_call s) Done (record m.state { shown = new }) (rw (is.0, is.1) p.0) refl (rw (is.0, is.1, p.1) refl)
+stroked m task s (Err refusal) new p =
+    let is = draws_it s in
+    subst (λ (q : Picture). Takes m task (stroke_call s) (with_picture m q) (Refused refusal)) (sym p.1) (refused_takes m task (stroke_call s) refusal (rw (is.0, is.1) p.0))
+
+pub stroke_replied : (old m : Machine) (task : ℕ) (c : Context) (s : Shape) (r : Result (Unit {0}) Refusal) (new : Picture) (reply : Reply) → c ≡ context_of m task → m ≡ old → reply ≡ answered r → Draws r (stroke_reason m c s) (picture_after m c s) m.state.shown new → Takes old task (stroke_call s) (with_picture m new) reply
+stroke_replied old m task c s r new reply own same said p =
+    let drawn_with = subst (λ (k : Context). Draws r (stroke_reason m k s) (picture_after m k s) m.state.shown new) own p in
+    subst (λ (a : Reply). Takes old task (stroke_call s) (with_picture m new) a) (sym said)
+    (subst (λ (k : Machine). Takes k task (stroke_call s) (with_picture m new) (answered r)) same (stroked m task s r new drawn_with))
+
+pub stroke_kept : (m : Machine) (c : Context) (s : Shape) (r : Result (Unit {0}) Refusal) (new : Picture) → IsKept m → Draws r (stroke_reason m c s) (picture_after m c s) m.state.shown new → IsKept (with_picture m new)
+stroke_kept m c s (Ok d) new kept p =
+    subst (λ (q : Picture). IsKept (with_picture m q)) (sym p.1)
+    (kept-with m m.state.windows m.state.handles _ m.state.contexts kept kept.scene kept.handles (width-stroke m.setup m.state.windows c s m.state.shown) (height-stroke m.setup m.state.windows c s m.state.shown))
+stroke_kept m c s (Err refusal) new kept p = subst (λ (q : Picture). IsKept (with_picture m q)) (sym p.1) kept
 
 -- the same for a new window
 pub created_kept : (m : Machine) (parent : ℕ) (x y : ℤ) (w h class : ℕ) (r : Result ℕ Refusal) (new : Scene) → IsKept m → m.state.handles ≤ m.made → Creates r (reason_of m (Create parent x y w h class)) (made_windows m parent x y w h class) (scene_of m) new → IsKept (with_scene m new)

@@ -1,5 +1,5 @@
 -- The damage covers every change: outside it the picture is the painter's.
-use Rattle.std.proofs.Common.{◌≡◌, ◌≢◌, ℕ, ℤ, pos, zero, suc, ◌+◌, ◌+ℤ◌, ◌-ℤ◌, ◌<◌, true, false, cond, eqb, List, [], ◌∷◌, length, map, Option, Some, None, refl, sym, ap, subst, ◌∙◌, inl, inr, arith}
+use Rattle.std.proofs.Common.{◌≡◌, ◌≢◌, ℕ, ℤ, pos, zero, suc, ◌+◌, ◌+ℤ◌, ◌-ℤ◌, ◌<◌, Bool, true, false, cond, eqb, List, [], ◌∷◌, length, map, Option, Some, None, refl, sym, ap, subst, ◌∙◌, inl, inr, arith}
 use Rattle.std.specs.Prelude.{is_some, position}
 use Rattle.std.specs.List.{list_any, AllByRecursion, AllZip}
 use Rattle.std.proofs.lemmas.Bool.{cases_Bool, or_parts, or_from, and_right, and_from, false≢true}
@@ -20,8 +20,9 @@ use Rattle.scene.specs.Changes.{DamageCovers, clips_have, ChangesAlone}
 use Rattle.scene.specs.Families.{new_window, desktop_with, on_top_of, moved_to, resized_to, with_shown, window_changed}
 use Rattle.scene.proofs.CallerLemmas.{bare, bare-area, AreasCover-areas, DamageCovers-alone, clips_have-found}
 use Rattle.win_tree.proofs.CallerLemmas.{IsNew}
+use Rattle.strokes.specs.declared.shape.Shape.{Shape}
 use Rattle.calls.specs.declared.call.Call.{Call}
-use Rattle.calls.specs.declared.call.Call.TheVariants.{Create, Delete, MoveTo, MoveBy, Resize, Show, Hide, ToTop, ToBottom, SetClass, Invalidate, InvalidateRect, InvalidateArea, Exec, Exec1, Scan, SetTrans, SetValue, Send}
+use Rattle.calls.specs.declared.call.Call.TheVariants.{Create, Delete, MoveTo, MoveBy, Resize, Show, Hide, ToTop, ToBottom, SetClass, Invalidate, InvalidateRect, InvalidateArea, Exec, Exec1, Scan, SetTrans, SetValue, Send, Fill, Frame, Line, Bitmap, Text}
 use Rattle.calls.specs.declared.entry.Entry.{Entry}
 use Rattle.calls.specs.declared.entry.Entry.TheVariants as entry
 use Rattle.calls.specs.declared.reply.Refusal.{Refusal}
@@ -34,8 +35,10 @@ use Rattle.gui_core.specs.Windows.{moved_by, with_class, after_change, with_inva
 use Rattle.gui_core.specs.Changes.{list_after}
 use Rattle.invalidate.specs.Invalidation.{is_invalid, on_screen}
 use Rattle.gui_core.specs.Jobs.{jobs_of}
-use Rattle.gui_core.specs.States.{State, Step, latest, opening, is_context_call, objections, objections_to, bad_size, no_class, refusal_of, unless_refused, changed, created, after_job, after_jobs, rect_with, effect, effect_of, context_after, with_own, step, state_after}
-use Rattle.gui_core.specs.Promises.{IsRightOutsideDamage, NoneInvalid}
+use Rattle.gui_core.specs.States.{State, Step, latest, opening, is_context_call, objections, objections_to, bad_size, no_class, refusal_of, unless_refused, changed, created, after_job, after_jobs, rect_with, effect, effect_of, context_after, with_own, stroke_done, other_objections, other_effect, step, state_after}
+use Rattle.gui_core.specs.Drawing.{shape_of, stroke_puts}
+use Rattle.gui_core.specs.Stains.{Stain, no_stain, without_patch, stain_after_jobs, left_stained, with_points, stain_after_call, stained, stain_after, draws}
+use Rattle.gui_core.specs.Promises.{IsRightOutside, IsPainterOutside, NoneInvalid}
 use Rattle.gui_core.proofs.JobLemmas.{none_invalid, no_jobs}
 use Rattle.gui_core.proofs.IgnoreLemmas.{bare-job}
 use Rattle.gui_core.proofs.KeptLemmas.{jobs-step}
@@ -48,6 +51,7 @@ use Rattle.gui_core.proofs.BareLemmas.{bare_after_change, bare_window, bare_rect
 use Rattle.gui_core.proofs.BoneLemmas.{stack_alone, bones, keeps_bones, bones_window, live_bones}
 use Rattle.gui_core.proofs.CoverLemmas.{desk, IsShaped, shaped_same, shaped_rest, Leads, change_covers, leads_raised, leads_lowered, leads_without, leads_created, leads_changed}
 use Rattle.gui_core.proofs.PictureLemmas.{picture_of-same, IsPictured, pictured_some, job_covers}
+use Rattle.gui_core.proofs.StrokeLemmas.{pictured_stroke, stays_beside}
 
 -- ---- the desktop
 
@@ -86,8 +90,8 @@ opening_shaped setup =
       desktop = refl;
     }
 
-opening_covers : (setup : Setup) → IsRightOutsideDamage setup (opening setup)
-opening_covers setup x y x_in y_in outside =
+opening_covers : (setup : Setup) → IsRightOutside setup (opening setup) no_stain
+opening_covers setup x y x_in y_in outside clean =
     absurd (false≢true (sym outside ∙ rw (desk_has setup (λ h. place_at (opening setup).windows h) x y x_in y_in, on_screen_of setup x y x_in y_in) refl))
 
 -- ---- changes that are covered
@@ -96,10 +100,10 @@ opening_covers setup x y x_in y_in outside =
 abbrev Covers : Setup → List Win → List Win → Type 0
 Covers setup ws vs = (x y : ℕ) → x < setup.config.w → y < setup.config.h → DamageCovers (looks_of setup ws) ws (looks_of setup vs) vs (point_at (pos x) (pos y))
 
-right_after : (setup : Setup) (s : State) (vs : List Win) (handles : ℕ) → IsRightOutsideDamage setup s → Covers setup s.windows vs → IsRightOutsideDamage setup (record { windows = vs; handles = handles; shown = s.shown; contexts = s.contexts })
-right_after setup s vs handles right covers x y x_in y_in outside =
+right_after : (setup : Setup) (s : State) (stain : Stain) (vs : List Win) (handles : ℕ) → IsRightOutside setup s stain → Covers setup s.windows vs → IsRightOutside setup (record { windows = vs; handles = handles; shown = s.shown; contexts = s.contexts }) stain
+right_after setup s stain vs handles right covers x y x_in y_in outside clean =
     let d = covers x y x_in y_in in
-    right x y x_in y_in (d.stays outside) ∙ sym (d.covers outside)
+    right x y x_in y_in (d.stays outside) clean ∙ sym (d.covers outside)
 
 -- ---- one window of which more is invalid
 
@@ -155,54 +159,54 @@ leads_listed setup ws handles h c s m =
 -- ---- all calls
 
 -- what holds after each call
-pub record Holds (setup : Setup) (s : State) : Type 0 where
+pub record Holds (setup : Setup) (s : State) (stain : Stain) : Type 0 where
   pub shaped : IsShaped setup s.windows s.handles
-  pub covers : IsRightOutsideDamage setup s
+  pub covers : IsRightOutside setup s stain
   pub shown : IsPictured setup.config.w setup.config.h s.shown
 
-opening_holds : (setup : Setup) → Holds setup (opening setup)
+opening_holds : (setup : Setup) → Holds setup (opening setup) no_stain
 opening_holds setup = record { shaped = opening_shaped setup; covers = opening_covers setup; shown = record { colours = λ x y. 0; is = refl } }
 
-job_holds : (setup : Setup) (s : State) → Holds setup s → Holds setup (after_job setup s)
-job_holds setup s h = record {
+job_holds : (setup : Setup) (s : State) (stain : Stain) → Holds setup s stain → Holds setup (after_job setup s) (without_patch setup s.windows stain)
+job_holds setup s stain h = record {
   shaped = shaped_same setup s.windows _ s.handles (bare-job s.windows) h.shaped;
-  covers = job_covers setup s (position is_invalid s.windows) refl h.shown h.covers;
+  covers = job_covers setup s stain (position is_invalid s.windows) refl h.shown h.covers;
   shown = pictured_some setup.config.w setup.config.h (looks_of setup s.windows) s.windows (position is_invalid s.windows) s.shown h.shown;
 }
 
-jobs_hold : (setup : Setup) (n : ℕ) (s : State) → Holds setup s → Holds setup (after_jobs setup n s)
-jobs_hold setup zero s h = h
-jobs_hold setup (suc n) s h = jobs_hold setup n (after_job setup s) (job_holds setup s h)
+jobs_hold : (setup : Setup) (n : ℕ) (s : State) (stain : Stain) → Holds setup s stain → Holds setup (after_jobs setup n s) (stain_after_jobs setup n s stain)
+jobs_hold setup zero s stain h = h
+jobs_hold setup (suc n) s stain h = jobs_hold setup n (after_job setup s) (without_patch setup s.windows stain) (job_holds setup s stain h)
 
 -- a change of what is invalid alone
-marked_holds : (setup : Setup) (s : State) (vs : List Win) → map bare vs ≡ map bare s.windows → Covers setup s.windows vs → Holds setup s → Holds setup (record s { windows = vs })
-marked_holds setup s vs same covers is = record {
+marked_holds : (setup : Setup) (s : State) (stain : Stain) (vs : List Win) → map bare vs ≡ map bare s.windows → Covers setup s.windows vs → Holds setup s stain → Holds setup (record s { windows = vs }) stain
+marked_holds setup s stain vs same covers is = record {
   shaped = shaped_same setup s.windows vs s.handles same is.shaped;
-  covers = right_after setup s vs s.handles is.covers covers;
+  covers = right_after setup s stain vs s.handles is.covers covers;
   shown = is.shown;
 }
 
 -- a change of values and of what is invalid alone
-valued_holds : (setup : Setup) (s : State) (vs : List Win) → map rest_of vs ≡ map rest_of s.windows → Covers setup s.windows vs → Holds setup s → Holds setup (record s { windows = vs })
-valued_holds setup s vs same covers is = record {
+valued_holds : (setup : Setup) (s : State) (stain : Stain) (vs : List Win) → map rest_of vs ≡ map rest_of s.windows → Covers setup s.windows vs → Holds setup s stain → Holds setup (record s { windows = vs }) stain
+valued_holds setup s stain vs same covers is = record {
   shaped = shaped_rest setup s.windows vs s.handles same is.shaped;
-  covers = right_after setup s vs s.handles is.covers covers;
+  covers = right_after setup s stain vs s.handles is.covers covers;
   shown = is.shown;
 }
 
 -- a call that leads to a list
-led_holds : (setup : Setup) (s : State) (now : List Win) (handles h : ℕ) → Leads setup s.windows now handles h → Holds setup s → Holds setup (record { windows = after_change (screen_of setup) h s.windows now; handles = handles; shown = s.shown; contexts = s.contexts })
-led_holds setup s now handles h leads is = record {
+led_holds : (setup : Setup) (s : State) (stain : Stain) (now : List Win) (handles h : ℕ) → Leads setup s.windows now handles h → Holds setup s stain → Holds setup (record { windows = after_change (screen_of setup) h s.windows now; handles = handles; shown = s.shown; contexts = s.contexts }) stain
+led_holds setup s stain now handles h leads is = record {
   shaped = shaped_same setup now _ handles (bare_after_change (screen_of setup) h s.windows now) leads.shaped;
-  covers = right_after setup s _ handles is.covers (λ x y x_in y_in. change_covers setup s.windows now handles h (point_at (pos x) (pos y)) leads (inside setup now handles x y leads.shaped x_in y_in));
+  covers = right_after setup s stain _ handles is.covers (λ x y x_in y_in. change_covers setup s.windows now handles h (point_at (pos x) (pos y)) leads (inside setup now handles x y leads.shaped x_in y_in));
   shown = is.shown;
 }
 
-changed_holds : (setup : Setup) (s : State) (h : ℕ) (c : Change) → MayChange s.windows h → Holds setup s → Holds setup (changed setup s h (list_after h c s.windows)).state
-changed_holds setup s h c fine is = led_holds setup s (list_after h c s.windows) s.handles h (leads_listed setup s.windows s.handles h c is.shaped fine) is
+changed_holds : (setup : Setup) (s : State) (stain : Stain) (h : ℕ) (c : Change) → MayChange s.windows h → Holds setup s stain → Holds setup (changed setup s h (list_after h c s.windows)).state stain
+changed_holds setup s stain h c fine is = led_holds setup s stain (list_after h c s.windows) s.handles h (leads_listed setup s.windows s.handles h c is.shaped fine) is
 
-created_holds : (setup : Setup) (s : State) (parent : ℕ) (x y : ℤ) (w h class : ℕ) → MayBeMade (length setup.assets.classes) s.windows parent w h class → Holds setup s → Holds setup (created setup s (new_window (s.handles + 1) parent x y w h class)).state
-created_holds setup s parent x y w h class m is =
+created_holds : (setup : Setup) (s : State) (stain : Stain) (parent : ℕ) (x y : ℤ) (w h class : ℕ) → MayBeMade (length setup.assets.classes) s.windows parent w h class → Holds setup s stain → Holds setup (created setup s (new_window (s.handles + 1) parent x y w h class)).state stain
+created_holds setup s stain parent x y w h class m is =
     let ws = s.windows in
     let win : Win = new_window (s.handles + 1) parent x y w h class in
     let new : IsNew (map bones ws) s.handles (bones win) (bones m.over') = record {
@@ -214,68 +218,141 @@ created_holds setup s parent x y w h class m is =
       few = subst (λ (n : ℕ). n < 256) (sym (length-map ws bones)) (few_windows (length ws) m.few);
       window = bones_window win (omega arith);
     } in
-    led_holds setup s (on_top_of parent (win ∷ []) ws) (s.handles + 1) (s.handles + 1) (leads_created setup ws s.handles win (bones m.over') is.shaped new refl) is
+    led_holds setup s stain (on_top_of parent (win ∷ []) ws) (s.handles + 1) (s.handles + 1) (leads_created setup ws s.handles win (bones m.over') is.shaped new refl) is
 
-effect_holds : (setup : Setup) (s : State) (call : Call) → refusal_of (objections (length setup.assets.classes) s.windows call) ≡ None → Holds setup s → Holds setup (effect setup s call).state
-effect_holds setup s (Create parent x y w h class) e is = created_holds setup s parent x y w h class (may_be_made (length setup.assets.classes) s.windows parent x y w h class e) is
-effect_holds setup s (Delete h) e is = changed_holds setup s h change.Delete (may_change s.windows h [] e).0 is
-effect_holds setup s (MoveTo h x y) e is = changed_holds setup s h (change.MoveTo x y) (may_change s.windows h [] e).0 is
-effect_holds setup s (MoveBy h dx dy) e is = changed_holds setup s h (change.MoveBy dx dy) (may_change s.windows h [] e).0 is
-effect_holds setup s (Resize h width height) e is = changed_holds setup s h (change.Resize width height) (may_change s.windows h (bad_size width height ∷ []) e).0 is
-effect_holds setup s (Show h) e is = changed_holds setup s h change.Show (may_change s.windows h [] e).0 is
-effect_holds setup s (Hide h) e is = changed_holds setup s h change.Hide (may_change s.windows h [] e).0 is
-effect_holds setup s (ToTop h) e is = changed_holds setup s h change.ToTop (may_change s.windows h [] e).0 is
-effect_holds setup s (ToBottom h) e is = changed_holds setup s h change.ToBottom (may_change s.windows h [] e).0 is
-effect_holds setup s (SetClass h class) e is = changed_holds setup s h (change.SetClass class) (may_change s.windows h (no_class (length setup.assets.classes) class ∷ []) e).0 is
-effect_holds setup s (SetTrans h trans) e is = changed_holds setup s h (change.SetTrans trans) (may_change s.windows h [] e).0 is
-effect_holds setup s (SetValue h index value) e is =
-    valued_holds setup s (with_value (screen_of setup) h index value s.windows) (rest_value (screen_of setup) h index value s.windows) (λ x y x_in y_in. value_covers setup.assets (screen_of setup) h index value s.windows (point_at (pos x) (pos y))) is
-effect_holds setup s (Send h message argument) e is =
-    valued_holds setup s (with_message setup.assets (screen_of setup) h message argument s.windows) (rest_message setup.assets (screen_of setup) h message argument s.windows) (λ x y x_in y_in. message_covers setup.assets (screen_of setup) h message argument s.windows (point_at (pos x) (pos y))) is
-effect_holds setup s (Invalidate h) e is =
+effect_holds : (setup : Setup) (s : State) (stain : Stain) (call : Call) → refusal_of (objections (length setup.assets.classes) s.windows call) ≡ None → Holds setup s stain → Holds setup (effect setup s call).state (left_stained setup s call stain)
+effect_holds setup s stain (Create parent x y w h class) e is = created_holds setup s stain parent x y w h class (may_be_made (length setup.assets.classes) s.windows parent x y w h class e) is
+effect_holds setup s stain (Delete h) e is = changed_holds setup s stain h change.Delete (may_change s.windows h [] e).0 is
+effect_holds setup s stain (MoveTo h x y) e is = changed_holds setup s stain h (change.MoveTo x y) (may_change s.windows h [] e).0 is
+effect_holds setup s stain (MoveBy h dx dy) e is = changed_holds setup s stain h (change.MoveBy dx dy) (may_change s.windows h [] e).0 is
+effect_holds setup s stain (Resize h width height) e is = changed_holds setup s stain h (change.Resize width height) (may_change s.windows h (bad_size width height ∷ []) e).0 is
+effect_holds setup s stain (Show h) e is = changed_holds setup s stain h change.Show (may_change s.windows h [] e).0 is
+effect_holds setup s stain (Hide h) e is = changed_holds setup s stain h change.Hide (may_change s.windows h [] e).0 is
+effect_holds setup s stain (ToTop h) e is = changed_holds setup s stain h change.ToTop (may_change s.windows h [] e).0 is
+effect_holds setup s stain (ToBottom h) e is = changed_holds setup s stain h change.ToBottom (may_change s.windows h [] e).0 is
+effect_holds setup s stain (SetClass h class) e is = changed_holds setup s stain h (change.SetClass class) (may_change s.windows h (no_class (length setup.assets.classes) class ∷ []) e).0 is
+effect_holds setup s stain (SetTrans h trans) e is = changed_holds setup s stain h (change.SetTrans trans) (may_change s.windows h [] e).0 is
+effect_holds setup s stain (SetValue h index value) e is =
+    valued_holds setup s stain (with_value (screen_of setup) h index value s.windows) (rest_value (screen_of setup) h index value s.windows) (λ x y x_in y_in. value_covers setup.assets (screen_of setup) h index value s.windows (point_at (pos x) (pos y))) is
+effect_holds setup s stain (Send h message argument) e is =
+    valued_holds setup s stain (with_message setup.assets (screen_of setup) h message argument s.windows) (rest_message setup.assets (screen_of setup) h message argument s.windows) (λ x y x_in y_in. message_covers setup.assets (screen_of setup) h message argument s.windows (point_at (pos x) (pos y))) is
+effect_holds setup s stain (Invalidate h) e is =
     let clip : Win → Rect = clip_in (screen_of setup) s.windows in
-    marked_holds setup s (with_invalid_window (screen_of setup) h s.windows) (bare_window (screen_of setup) h s.windows) (invalid_covers setup s.windows h clip clip) is
-effect_holds setup s (InvalidateRect h x0 y0 x1 y1) e is =
+    marked_holds setup s stain (with_invalid_window (screen_of setup) h s.windows) (bare_window (screen_of setup) h s.windows) (invalid_covers setup s.windows h clip clip) is
+effect_holds setup s stain (InvalidateRect h x0 y0 x1 y1) e is =
     let local : Rect = rect_with x0 y0 x1 y1 in
-    marked_holds setup s (with_invalid_rect (screen_of setup) h local s.windows) (bare_rect (screen_of setup) h local s.windows) (invalid_covers setup s.windows h (clip_in (screen_of setup) s.windows) (λ w. on_screen s.windows w local)) is
-effect_holds setup s (InvalidateArea x0 y0 x1 y1) e is =
+    marked_holds setup s stain (with_invalid_rect (screen_of setup) h local s.windows) (bare_rect (screen_of setup) h local s.windows) (invalid_covers setup s.windows h (clip_in (screen_of setup) s.windows) (λ w. on_screen s.windows w local)) is
+effect_holds setup s stain (InvalidateArea x0 y0 x1 y1) e is =
     let area : Rect = rect_with x0 y0 x1 y1 in
-    marked_holds setup s (with_invalid_area (screen_of setup) area s.windows) (bare-area (clip_in (screen_of setup) s.windows) area s.windows)
+    marked_holds setup s stain (with_invalid_area (screen_of setup) area s.windows) (bare-area (clip_in (screen_of setup) s.windows) area s.windows)
     (λ x y x_in y_in. AreasCover-areas setup.assets (screen_of setup) s.windows (area ∷ []) (point_at (pos x) (pos y))) is
-effect_holds setup s Exec e is = jobs_hold setup (jobs_of s.windows) s is
-effect_holds setup s Exec1 e is = jobs_hold setup (cond (list_any is_invalid s.windows) 1 0) s is
-effect_holds setup s Scan e is = is
-effect_holds setup s call e is = is
+effect_holds setup s stain Exec e is = jobs_hold setup (jobs_of s.windows) s stain is
+effect_holds setup s stain Exec1 e is = jobs_hold setup (cond (list_any is_invalid s.windows) 1 0) s stain is
+effect_holds setup s stain Scan e is = is
+effect_holds setup s stain call e is = is
 
 -- a call on a context leaves the windows and the picture as they are
-owning_holds : (setup : Setup) (s : State) (task : ℕ) (own : Owned) → Holds setup s → Holds setup (with_own s task own).state
-owning_holds setup s task own is = record { shaped = is.shaped; covers = is.covers; shown = is.shown }
+owning_holds : (setup : Setup) (s : State) (stain : Stain) (task : ℕ) (own : Owned) → Holds setup s stain → Holds setup (with_own s task own).state stain
+owning_holds setup s stain task own is = record { shaped = is.shaped; covers = is.covers; shown = is.shown }
 
-any_effect_holds : (setup : Setup) (s : State) (actor : ℕ) (call : Call) → refusal_of (objections_to setup s actor call) ≡ None → Holds setup s → Holds setup (effect_of setup s actor call).state
-any_effect_holds setup s actor call fine is =
+-- a stroke leaves the windows, and the picture outside its points
+stroke_holds : (setup : Setup) (s : State) (stain : Stain) (task : ℕ) (shape : Shape) → Holds setup s stain → Holds setup (stroke_done setup s (owned_by s.contexts task).context shape).state (with_points setup s task (Some shape) stain)
+stroke_holds setup s stain task shape is =
+    let c = (owned_by s.contexts task).context in
+    record {
+      shaped = is.shaped;
+      covers = λ x y x_in y_in outside clean.
+          let p : Point = point_at (pos x) (pos y) in
+          let both = or_parts (stain p) (stroke_puts setup s.windows c shape p) clean in
+          let wide : x < s.shown.width = rw (ap (λ (q : Picture). q.width) is.shown.is) x_in in
+          let high : y < s.shown.height = rw (ap (λ (q : Picture). q.height) is.shown.is) y_in in
+          stays_beside setup s.windows c shape s.shown x y wide high both.1 ∙ is.covers x y x_in y_in outside both.0;
+      shown = pictured_stroke setup s.windows c shape s.shown is.shown;
+    }
+
+-- calls on contexts paint nothing and draw nothing
+context_stains_nothing : (setup : Setup) (s : State) (task : ℕ) (call : Call) (stain : Stain) → is_context_call call ≡ true → stain_after_call setup s task call stain ≡ stain
+context_stains_nothing setup s task Exec stain on = absurd cc
+context_stains_nothing setup s task Exec1 stain on = absurd cc
+context_stains_nothing setup s task (Fill x0 y0 x1 y1) stain on = absurd cc
+context_stains_nothing setup s task (Frame x0 y0 x1 y1) stain on = absurd cc
+context_stains_nothing setup s task (Line x0 y0 x1 y1) stain on = absurd cc
+context_stains_nothing setup s task (Bitmap bitmap x y) stain on = absurd cc
+context_stains_nothing setup s task (Text x y string) stain on = absurd cc
+context_stains_nothing setup s task call stain on = refl
+
+-- strokes paint no patch
+stroke_leaves_stain : (setup : Setup) (s : State) (call : Call) (shape : Shape) (stain : Stain) → shape_of call ≡ Some shape → left_stained setup s call stain ≡ stain
+stroke_leaves_stain setup s Exec shape stain is = absurd cc
+stroke_leaves_stain setup s Exec1 shape stain is = absurd cc
+stroke_leaves_stain setup s call shape stain is = refl
+
+other_holds : (setup : Setup) (s : State) (stain : Stain) (actor : ℕ) (call : Call) (o : Option Shape) → shape_of call ≡ o → refusal_of (other_objections setup s actor o call) ≡ None → Holds setup s stain → Holds setup (other_effect setup s actor o call).state (with_points setup s actor o (left_stained setup s call stain))
+other_holds setup s stain actor call None is fine holds = effect_holds setup s stain call fine holds
+other_holds setup s stain actor call (Some shape) is fine holds =
+    subst (λ (left : Stain). Holds setup (stroke_done setup s (owned_by s.contexts actor).context shape).state (with_points setup s actor (Some shape) left)) (sym (stroke_leaves_stain setup s call shape stain is))
+    (stroke_holds setup s stain actor shape holds)
+
+any_effect_holds : (setup : Setup) (s : State) (stain : Stain) (actor : ℕ) (call : Call) → refusal_of (objections_to setup s actor call) ≡ None → Holds setup s stain → Holds setup (effect_of setup s actor call).state (stain_after_call setup s actor call stain)
+any_effect_holds setup s stain actor call fine is =
     elim (cases_Bool (is_context_call call)) [
-      | inl on ↦ rw on (owning_holds setup s actor (context_after (owned_by s.contexts actor) call) is)
-      | inr other ↦ rw other (effect_holds setup s call (rw other at fine) is)
+      | inl on ↦
+          subst (λ (after : Stain). Holds setup (effect_of setup s actor call).state after) (sym (context_stains_nothing setup s actor call stain on))
+          (rw on (owning_holds setup s stain actor (context_after (owned_by s.contexts actor) call) is))
+      | inr other ↦ rw other (other_holds setup s stain actor call (shape_of call) refl (rw other at fine) is)
     ]
 
-unless_refused_holds : (setup : Setup) (s : State) (done : Step) (o : Option Refusal) → Holds setup s → (o ≡ None → Holds setup done.state) → Holds setup (unless_refused o s done).state
-unless_refused_holds setup s done None is is_done = is_done refl
-unless_refused_holds setup s done (Some refusal) is is_done = is
+unless_refused_holds : (setup : Setup) (s : State) (stain after : Stain) (done : Step) (o : Option Refusal) → Holds setup s stain → (o ≡ None → Holds setup done.state after) → Holds setup (unless_refused o s done).state (cond (is_some o) stain after)
+unless_refused_holds setup s stain after done None is is_done = is_done refl
+unless_refused_holds setup s stain after done (Some refusal) is is_done = is
 
-step_holds : (setup : Setup) (s : State) (e : Entry) → Holds setup s → Holds setup (step setup s e).state
+step_holds : (setup : Setup) (s : State) (stain : Stain) (e : Entry) → Holds setup s stain → Holds setup (step setup s e).state (stained setup s e stain)
 unfolding step
-step_holds setup s (entry.Call actor call) is =
-    unless_refused_holds setup s (effect_of setup s actor call) (refusal_of (objections_to setup s actor call)) is (λ fine. any_effect_holds setup s actor call fine is)
+step_holds setup s stain (entry.Call actor call) is =
+    unless_refused_holds setup s stain (stain_after_call setup s actor call stain) (effect_of setup s actor call) (refusal_of (objections_to setup s actor call)) is (λ fine. any_effect_holds setup s stain actor call fine is)
 
-entries_hold : (setup : Setup) (s : State) (es : List Entry) → Holds setup s → Holds setup (state_after setup s es)
-entries_hold setup s [] is = is
-entries_hold setup s (e ∷ es) is = entries_hold setup (step setup s e).state es (step_holds setup s e is)
+entries_hold : (setup : Setup) (s : State) (stain : Stain) (es : List Entry) → Holds setup s stain → Holds setup (state_after setup s es) (stain_after setup s es stain)
+entries_hold setup s stain [] is = is
+entries_hold setup s stain (e ∷ es) is = entries_hold setup (step setup s e).state (stained setup s e stain) es (step_holds setup s stain e is)
 
-all_hold : (setup : Setup) (es : List Entry) → Holds setup (state_after setup (opening setup) es)
-all_hold setup es = entries_hold setup (opening setup) es (opening_holds setup)
+all_hold : (setup : Setup) (es : List Entry) → Holds setup (state_after setup (opening setup) es) (stain_after setup (opening setup) es no_stain)
+all_hold setup es = entries_hold setup (opening setup) no_stain es (opening_holds setup)
 
-pub damage_covers : (setup : Setup) (es : List Entry) → IsRightOutsideDamage setup (state_after setup (opening setup) es)
+pub damage_covers : (setup : Setup) (es : List Entry) → IsRightOutside setup (state_after setup (opening setup) es) (stain_after setup (opening setup) es no_stain)
 damage_covers setup es = let h = all_hold setup es in h.covers
+
+-- ---- what isn't stained stays clean until a task draws there
+
+job_cleans : (setup : Setup) (ws : List Win) (stain : Stain) (p : Point) → stain p ≡ false → without_patch setup ws stain p ≡ false
+job_cleans setup ws stain p clean = rw clean refl
+
+jobs_clean : (setup : Setup) (n : ℕ) (s : State) (stain : Stain) (p : Point) → stain p ≡ false → stain_after_jobs setup n s stain p ≡ false
+jobs_clean setup zero s stain p clean = clean
+jobs_clean setup (suc n) s stain p clean = jobs_clean setup n (after_job setup s) (without_patch setup s.windows stain) p (job_cleans setup s.windows stain p clean)
+
+left_clean : (setup : Setup) (s : State) (call : Call) (stain : Stain) (p : Point) → stain p ≡ false → left_stained setup s call stain p ≡ false
+left_clean setup s Exec stain p clean = jobs_clean setup (jobs_of s.windows) s stain p clean
+left_clean setup s Exec1 stain p clean = jobs_clean setup (cond (list_any is_invalid s.windows) 1 0) s stain p clean
+left_clean setup s call stain p clean = clean
+
+unless_clean : (refused : Bool) (stain after : Stain) (p : Point) → stain p ≡ false → after p ≡ false → (cond refused stain after) p ≡ false
+unless_clean true stain after p clean is_after = clean
+unless_clean false stain after p clean is_after = is_after
+
+points_clean : (setup : Setup) (s : State) (task : ℕ) (o : Option Shape) (stain : Stain) (p : Point) → is_some o ≡ false → stain p ≡ false → with_points setup s task o stain p ≡ false
+points_clean setup s task None stain p none clean = clean
+points_clean setup s task (Some shape) stain p none clean = absurd cc
+
+pub stays_clean : (setup : Setup) (s : State) (e : Entry) (stain : Stain) (p : Point) → draws e ≡ false → stain p ≡ false → stained setup s e stain p ≡ false
+stays_clean setup s (entry.Call actor call) stain p none clean =
+    unless_clean (is_some (refusal_of (objections_to setup s actor call))) stain (stain_after_call setup s actor call stain) p clean
+    (points_clean setup s actor (shape_of call) (left_stained setup s call stain) p none (left_clean setup s call stain p clean))
+
+all_clean : (setup : Setup) (s : State) (es : List Entry) (stain : Stain) (p : Point) → list_any draws es ≡ false → stain p ≡ false → stain_after setup s es stain p ≡ false
+all_clean setup s [] stain p none clean = clean
+all_clean setup s (e ∷ es) stain p none clean =
+    let parts = or_parts (draws e) (list_any draws es) none in
+    all_clean setup (step setup s e).state es (stained setup s e stain) p parts.1 (stays_clean setup s e stain p parts.0 clean)
 
 -- ---- where no window is invalid
 
@@ -289,14 +366,19 @@ valid_is_no_damage looks (w ∷ ws) p none =
     let parts = or_parts (is_invalid w) (list_any is_invalid ws) none in
     or_from _ _ (and_right (is_seen looks w ws p) (is_invalid_at p w) (not_invalid_at w.invalid p parts.0)) (valid_is_no_damage looks ws p parts.1)
 
-shown_is_painter : (setup : Setup) (s : State) → Holds setup s → NoneInvalid s.windows → s.shown ≡ painter setup s.windows
-shown_is_painter setup s h none =
+right_outside : (setup : Setup) (s : State) (stain : Stain) → Holds setup s stain → NoneInvalid s.windows → IsPainterOutside setup s stain
+right_outside setup s stain h none x y x_in y_in clean =
+    h.covers x y x_in y_in (valid_is_no_damage (looks_of setup s.windows) s.windows (point_at (pos x) (pos y)) none) clean
+    ∙ sym (colour_at-picture_of setup.config.w setup.config.h (λ u v. painted (looks_of setup s.windows) s.windows (point_at (pos u) (pos v))) x y x_in y_in)
+
+shown_is_painter : (setup : Setup) (s : State) (stain : Stain) → Holds setup s stain → ((p : Point) → stain p ≡ false) → NoneInvalid s.windows → s.shown ≡ painter setup s.windows
+shown_is_painter setup s stain h clean none =
     let colours = h.shown.colours in
     h.shown.is
     ∙ picture_of-same setup.config.w setup.config.h colours (λ x y. painted (looks_of setup s.windows) s.windows (point_at (pos x) (pos y))) (λ x y x_in y_in.
     sym (colour_at-picture_of setup.config.w setup.config.h colours x y x_in y_in)
     ∙ ap (λ (shown : Picture). colour_at shown x y) (sym h.shown.is)
-    ∙ h.covers x y x_in y_in (valid_is_no_damage (looks_of setup s.windows) s.windows (point_at (pos x) (pos y)) none))
+    ∙ h.covers x y x_in y_in (valid_is_no_damage (looks_of setup s.windows) s.windows (point_at (pos x) (pos y)) none) (clean (point_at (pos x) (pos y))))
 
 -- ---- exec
 
@@ -321,5 +403,8 @@ pub exec_ends : (setup : Setup) (s : State) (actor : ℕ) → NoneInvalid (step 
 unfolding step
 exec_ends setup s actor = jobs_end setup (jobs_of s.windows) s refl
 
-pub quiet_is_painter : (setup : Setup) (es : List Entry) → NoneInvalid (state_after setup (opening setup) es).windows → latest (state_after setup (opening setup) es) ≡ painter setup (state_after setup (opening setup) es).windows
-quiet_is_painter setup es none = shown_is_painter setup (state_after setup (opening setup) es) (all_hold setup es) none
+pub quiet_is_painter : (setup : Setup) (es : List Entry) → NoneInvalid (state_after setup (opening setup) es).windows → IsPainterOutside setup (state_after setup (opening setup) es) (stain_after setup (opening setup) es no_stain)
+quiet_is_painter setup es none = right_outside setup (state_after setup (opening setup) es) _ (all_hold setup es) none
+
+pub undrawn_is_painter : (setup : Setup) (es : List Entry) → list_any draws es ≡ false → NoneInvalid (state_after setup (opening setup) es).windows → latest (state_after setup (opening setup) es) ≡ painter setup (state_after setup (opening setup) es).windows
+undrawn_is_painter setup es undrawn none = shown_is_painter setup (state_after setup (opening setup) es) _ (all_hold setup es) (λ p. all_clean setup (opening setup) es no_stain p undrawn refl) none

@@ -16,6 +16,9 @@ use Rattle.win_tree.specs.Refusals.{refusal_of_create}
 use Rattle.win_tree.proofs.CallerLemmas.{IsNew}
 use Rattle.invalidate.proofs.CallerLemmas.{may_become}
 use Rattle.invalidate.specs.Invalidation.{on_screen}
+use Rattle.strokes.specs.declared.shape.Shape.{Shape}
+use Rattle.strokes.specs.declared.shape.Shape.TheVariants as shape
+use Rattle.calls.specs.declared.call.Call.{Call}
 use Rattle.calls.specs.declared.call.Call.TheVariants.{Create}
 use Rattle.calls.specs.declared.reply.Refusal.{Refusal}
 use Rattle.calls.specs.declared.reply.Refusal.TheVariants.{Desktop, BadSize, TooManyWindows, TooDeep, NoClass}
@@ -26,7 +29,8 @@ use Rattle.gui_core.specs.declared.contexts.ContextChange.TheVariants as context
 use Rattle.gui_core.specs.Setups.{Setup, screen_of}
 use Rattle.gui_core.specs.Windows.{after_change, with_class, with_invalid_window, with_invalid_rect, with_trans}
 use Rattle.gui_core.specs.Scenes.{HasClass, IsScene}
-use Rattle.gui_core.specs.Changes.{call_for, list_after, context_call}
+use Rattle.gui_core.specs.Changes.{call_for, list_after, context_call, stroke_call}
+use Rattle.gui_core.specs.Drawing.{shape_of}
 use Rattle.gui_core.specs.States.{State, Step, is_context_call, with_windows, effect, Objection, objections, no_window, too_deep, bad_size, no_class, refusal_of}
 use Rattle.gui_core.proofs.IgnoreLemmas.{bare_invalidated}
 use Rattle.gui_core.proofs.SceneLemmas.{found_has, found_handle, MayStand, scene_changed, scene_marked, scene_raised, scene_lowered, scene_without}
@@ -223,17 +227,21 @@ scene_invalid_rect setup ws handles h local s = scene_invalid setup ws handles h
 
 -- ---- what a change does
 
-pub on_no_context : (h : ℕ) (change : Change) → is_context_call (call_for h change) ≡ false
-on_no_context h Delete = refl
-on_no_context h (MoveTo x y) = refl
-on_no_context h (MoveBy dx dy) = refl
-on_no_context h (Resize width height) = refl
-on_no_context h Show = refl
-on_no_context h Hide = refl
-on_no_context h ToTop = refl
-on_no_context h ToBottom = refl
-on_no_context h (SetClass class) = refl
-on_no_context h (SetTrans trans) = refl
+-- the call is neither on a context nor of a shape
+abbrev pub IsOnWindows : Call → Type 0
+IsOnWindows call = (is_context_call call ≡ false) × (shape_of call ≡ None)
+
+pub on_windows : (h : ℕ) (change : Change) → IsOnWindows (call_for h change)
+on_windows h Delete = (refl, refl)
+on_windows h (MoveTo x y) = (refl, refl)
+on_windows h (MoveBy dx dy) = (refl, refl)
+on_windows h (Resize width height) = (refl, refl)
+on_windows h Show = (refl, refl)
+on_windows h Hide = (refl, refl)
+on_windows h ToTop = (refl, refl)
+on_windows h ToBottom = (refl, refl)
+on_windows h (SetClass class) = (refl, refl)
+on_windows h (SetTrans trans) = (refl, refl)
 
 pub on_a_context : (change : ContextChange) → is_context_call (context_call change) ≡ true
 on_a_context (context_change.Select h) = refl
@@ -243,6 +251,13 @@ on_a_context (context_change.TextMode trans) = refl
 on_a_context (context_change.Font font) = refl
 on_a_context context_change.Save = refl
 on_a_context context_change.Restore = refl
+
+pub draws_it : (s : Shape) → (is_context_call (stroke_call s) ≡ false) × (shape_of (stroke_call s) ≡ Some s)
+draws_it (shape.Fill x0 y0 x1 y1) = (refl, refl)
+draws_it (shape.Frame x0 y0 x1 y1) = (refl, refl)
+draws_it (shape.Line x0 y0 x1 y1) = (refl, refl)
+draws_it (shape.Bitmap bitmap x y) = (refl, refl)
+draws_it (shape.Text x y string) = (refl, refl)
 
 pub does : (setup : Setup) (s : State) (h : ℕ) (change : Change) → ◌≡◌ {A = Step} (with_windows s (after_change (screen_of setup) h s.windows (list_after h change s.windows))) (effect setup s (call_for h change))
 does setup s h Delete = refl

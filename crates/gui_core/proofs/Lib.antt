@@ -14,6 +14,7 @@ mod MessageLemmas
 mod BoneLemmas
 mod CoverLemmas
 mod PictureLemmas
+mod StrokeLemmas
 mod DamageLemmas
 mod SceneryLemmas
 mod CallLemmas

@@ -10,8 +10,9 @@ use Rattle.scene.specs.declared.win.Win.{Win}
 use Rattle.scene.specs.Clips.{clip_in}
 use Rattle.scene.specs.Families.{new_window, on_top_of}
 use Rattle.scene.proofs.CallerLemmas.{bare, bare-area, painted-same}
+use Rattle.strokes.specs.declared.shape.Shape.{Shape}
 use Rattle.calls.specs.declared.call.Call.{Call}
-use Rattle.calls.specs.declared.call.Call.TheVariants.{Create, Delete, MoveTo, MoveBy, Resize, Show, Hide, ToTop, ToBottom, SetClass, Invalidate, InvalidateRect, InvalidateArea, Exec, Exec1, Scan, SetTrans, SetValue, Send, Select, Colour, BkColour, TextMode, Font, Save, Restore}
+use Rattle.calls.specs.declared.call.Call.TheVariants.{Create, Delete, MoveTo, MoveBy, Resize, Show, Hide, ToTop, ToBottom, SetClass, Invalidate, InvalidateRect, InvalidateArea, Exec, Exec1, Scan, SetTrans, SetValue, Send, Select, Colour, BkColour, TextMode, Font, Save, Restore, Fill, Frame, Line, Bitmap, Text}
 use Rattle.calls.specs.declared.entry.Entry.{Entry}
 use Rattle.calls.specs.declared.entry.Entry.TheVariants as entry
 use Rattle.calls.specs.declared.reply.Reply.{Reply}
@@ -23,7 +24,8 @@ use Rattle.gui_core.specs.Setups.{Setup, screen_of, painter}
 use Rattle.invalidate.specs.Invalidation.{is_invalid}
 use Rattle.gui_core.specs.Changes.{list_after}
 use Rattle.gui_core.specs.Jobs.{jobs_of}
-use Rattle.gui_core.specs.States.{State, Step, Objection, opening, is_context_call, objections, objections_to, refusal_of, unless_refused, changed, created, after_create, after_job, after_jobs, painted, rect_with, effect, effect_of, step_of_call, step, state_after}
+use Rattle.gui_core.specs.States.{State, Step, Objection, opening, is_context_call, objections, objections_to, refusal_of, unless_refused, changed, created, after_create, after_job, after_jobs, painted, rect_with, effect, other_effect, effect_of, step_of_call, step, state_after}
+use Rattle.gui_core.specs.Drawing.{shape_of}
 use Rattle.gui_core.specs.Promises.{changes_windows, window_calls}
 use Rattle.gui_core.proofs.IgnoreLemmas.{bare-job}
 use Rattle.gui_core.proofs.ShapeLemmas.{on_top_of-map}
@@ -58,15 +60,19 @@ effect_is_no_refusal setup s Exec1 r e = absurd cc
 effect_is_no_refusal setup s Scan r e = absurd cc
 effect_is_no_refusal setup s call r e = absurd cc
 
+reply_is_done : (r : Refusal) → ◌≡◌ {A = Reply} Done (Refused r) → ⊥
+reply_is_done r same = absurd cc
+
+other_is_no_refusal : (setup : Setup) (s : State) (actor : ℕ) (o : Option Shape) (call : Call) (r : Refusal) → (other_effect setup s actor o call).reply ≡ Refused r → ⊥
+other_is_no_refusal setup s actor None call r e = effect_is_no_refusal setup s call r e
+other_is_no_refusal setup s actor (Some shape) call r e = reply_is_done r e
+
 no_effect_refuses : (setup : Setup) (s : State) (actor : ℕ) (call : Call) (r : Refusal) → (effect_of setup s actor call).reply ≡ Refused r → ⊥
 no_effect_refuses setup s actor call r e =
     elim (cases_Bool (is_context_call call)) [
-      | inl on ↦ reply_is_done (rw on at e)
-      | inr other ↦ effect_is_no_refusal setup s call r (rw other at e)
+      | inl on ↦ reply_is_done r (rw on at e)
+      | inr other ↦ other_is_no_refusal setup s actor (shape_of call) call r (rw other at e)
     ]
-  where
-    reply_is_done : ◌≡◌ {A = Reply} Done (Refused r) → ⊥
-    reply_is_done same = absurd cc
 
 pub refusal_changes_nothing : (setup : Setup) (s : State) (e : Entry) (refusal : Refusal) → (step setup s e).reply ≡ Refused refusal → (step setup s e).state ≡ s
 unfolding step
@@ -185,21 +191,33 @@ context_alike setup s actor call on = stays (refusal_of (objections_to setup s a
     stays None = rw on (record { windows = refl; handles = refl })
     stays (Some refusal) = alike_refl s
 
-windows_alike : (setup : Setup) (s t : State) (actor : ℕ) (call : Call) → is_context_call call ≡ false → AreAlike s t → AreAlike (step_of_call setup s actor call).state (step_of_call setup t actor call).state
-windows_alike setup s t actor call other e =
+-- nor does a stroke
+stroke_alike : (setup : Setup) (s : State) (actor : ℕ) (call : Call) (shape : Shape) → is_context_call call ≡ false → shape_of call ≡ Some shape → AreAlike s (step_of_call setup s actor call).state
+stroke_alike setup s actor call shape other is = stays (refusal_of (objections_to setup s actor call))
+  where
+    stays : (o : Option Refusal) → AreAlike s (unless_refused o s (effect_of setup s actor call)).state
+    stays None = rw (other, is) (record { windows = refl; handles = refl })
+    stays (Some refusal) = alike_refl s
+
+windows_alike : (setup : Setup) (s t : State) (actor : ℕ) (call : Call) → is_context_call call ≡ false → shape_of call ≡ None → AreAlike s t → AreAlike (step_of_call setup s actor call).state (step_of_call setup t actor call).state
+windows_alike setup s t actor call other none e =
     let classes = length setup.assets.classes in
     let same : objections classes s.windows call ≡ objections classes t.windows call =
     sym (objections-bare classes s.windows call) ∙ ap (λ (ws : List Win). objections classes ws call) e.windows ∙ objections-bare classes t.windows call in
-    rw other
+    rw (other, none)
     (subst (λ (l : List Objection). AreAlike (unless_refused (refusal_of l) s (effect setup s call)).state (unless_refused (refusal_of (objections classes t.windows call)) t (effect setup t call)).state) (sym same)
     (unless_alike (refusal_of (objections classes t.windows call)) s t (effect setup s call) (effect setup t call) e (effect_alike setup s t call e)))
+
+others_alike : (setup : Setup) (s t : State) (actor : ℕ) (call : Call) (o : Option Shape) → is_context_call call ≡ false → shape_of call ≡ o → AreAlike s t → AreAlike (step_of_call setup s actor call).state (step_of_call setup t actor call).state
+others_alike setup s t actor call None other is e = windows_alike setup s t actor call other is e
+others_alike setup s t actor call (Some shape) other is e = alike_after _ s _ (alike_sym s _ (stroke_alike setup s actor call shape other is)) (alike_after s t _ e (stroke_alike setup t actor call shape other is))
 
 step_alike : (setup : Setup) (s t : State) (e : Entry) → AreAlike s t → AreAlike (step setup s e).state (step setup t e).state
 unfolding step
 step_alike setup s t (entry.Call actor call) e =
     elim (cases_Bool (is_context_call call)) [
       | inl on ↦ alike_after _ s _ (alike_sym s _ (context_alike setup s actor call on)) (alike_after s t _ e (context_alike setup t actor call on))
-      | inr other ↦ windows_alike setup s t actor call other e
+      | inr other ↦ others_alike setup s t actor call (shape_of call) other refl e
     ]
 
 -- the other calls change nothing but what is invalid
@@ -231,6 +249,11 @@ other_alike setup s (entry.Call actor (TextMode trans)) window = context_alike s
 other_alike setup s (entry.Call actor (Font font)) window = context_alike setup s actor (Font font) refl
 other_alike setup s (entry.Call actor Save) window = context_alike setup s actor Save refl
 other_alike setup s (entry.Call actor Restore) window = context_alike setup s actor Restore refl
+other_alike setup s (entry.Call actor (Fill x0 y0 x1 y1)) window = stroke_alike setup s actor (Fill x0 y0 x1 y1) _ refl refl
+other_alike setup s (entry.Call actor (Frame x0 y0 x1 y1)) window = stroke_alike setup s actor (Frame x0 y0 x1 y1) _ refl refl
+other_alike setup s (entry.Call actor (Line x0 y0 x1 y1)) window = stroke_alike setup s actor (Line x0 y0 x1 y1) _ refl refl
+other_alike setup s (entry.Call actor (Bitmap bitmap x y)) window = stroke_alike setup s actor (Bitmap bitmap x y) _ refl refl
+other_alike setup s (entry.Call actor (Text x y string)) window = stroke_alike setup s actor (Text x y string) _ refl refl
 
 entries_alike : (setup : Setup) (s t : State) (es : List Entry) → AreAlike s t → AreAlike (state_after setup s (window_calls es)) (state_after setup t es)
 entries_alike setup s t [] alike = alike

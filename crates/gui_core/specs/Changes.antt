@@ -1,8 +1,10 @@
--- What the calls on one window do to the list, and calls on a context. No contract of a public
+-- What the calls on one window do to the list, and calls on a context and of a shape. No contract of a public
 -- function names these.
 use Rattle.std.specs.Prelude.{ℕ, true, false, List}
 use Rattle.scene.specs.declared.win.Win.{Win}
 use Rattle.scene.specs.Families.{without_family, raised, lowered, window_changed, moved_to, resized_to, with_shown}
+use Rattle.strokes.specs.declared.shape.Shape.{Shape}
+use Rattle.strokes.specs.declared.shape.Shape.TheVariants as shape
 use Rattle.calls.specs.declared.call.Call.{Call}
 use Rattle.calls.specs.declared.call.Call.TheVariants as call
 use Rattle.gui_core.specs.declared.change.Change.{Change}
@@ -33,6 +35,14 @@ context_call (context_change.TextMode trans) = call.TextMode trans
 context_call (context_change.Font font) = call.Font font
 context_call context_change.Save = call.Save
 context_call context_change.Restore = call.Restore
+
+-- the call that draws the shape
+abbrev pub stroke_call : Shape → Call
+stroke_call (shape.Fill x0 y0 x1 y1) = call.Fill x0 y0 x1 y1
+stroke_call (shape.Frame x0 y0 x1 y1) = call.Frame x0 y0 x1 y1
+stroke_call (shape.Line x0 y0 x1 y1) = call.Line x0 y0 x1 y1
+stroke_call (shape.Bitmap bitmap x y) = call.Bitmap bitmap x y
+stroke_call (shape.Text x y string) = call.Text x y string
 
 -- the list after a change of one window
 abbrev pub list_after : ℕ → Change → List Win → List Win

@@ -4,6 +4,8 @@ pub mod Changes
 pub mod Scenes
 pub mod Refusals
 pub mod Jobs
+pub mod Drawing
 pub mod States
+pub mod Stains
 pub mod Promises
 pub mod Machines

@@ -7,20 +7,29 @@ use Rattle.scene.specs.declared.win.Win.{Win}
 use Rattle.scene.specs.Painting.{painted}
 use Rattle.scene.specs.Damage.{is_damaged}
 use Rattle.calls.specs.declared.call.Call.{Call}
-use Rattle.calls.specs.declared.call.Call.TheVariants.{Exec, Exec1, Scan, Select, Colour, BkColour, TextMode, Font, Save, Restore}
+use Rattle.calls.specs.declared.call.Call.TheVariants.{Exec, Exec1, Scan, Select, Colour, BkColour, TextMode, Font, Save, Restore, Fill, Frame, Line, Bitmap, Text}
 use Rattle.calls.specs.declared.entry.Entry.{Entry}
 use Rattle.calls.specs.declared.entry.Entry.TheVariants as entry
-use Rattle.gui_core.specs.Setups.{Setup, looks_of}
+use Rattle.gui_core.specs.Setups.{Setup, looks_of, painter}
 use Rattle.invalidate.specs.Invalidation.{is_invalid}
 use Rattle.gui_core.specs.States.{State, latest, is_context_call}
+use Rattle.gui_core.specs.Stains.{Stain}
 
--- at each point of the screen outside the damage the latest picture is the painter's
-abbrev pub IsRightOutsideDamage : Setup → State → Type 0
-IsRightOutsideDamage setup s =
+-- at each point of the screen outside the damage and the stain the latest picture is the painter's
+abbrev pub IsRightOutside : Setup → State → Stain → Type 0
+IsRightOutside setup s stain =
     let looks = looks_of setup s.windows in
     (x y : ℕ) → x < setup.config.w → y < setup.config.h
     → is_damaged looks s.windows (point_at (pos x) (pos y)) ≡ false
+    → stain (point_at (pos x) (pos y)) ≡ false
     → colour_at (latest s) x y ≡ painted looks s.windows (point_at (pos x) (pos y))
+
+-- so at each point of the screen outside the stain
+abbrev pub IsPainterOutside : Setup → State → Stain → Type 0
+IsPainterOutside setup s stain =
+    (x y : ℕ) → x < setup.config.w → y < setup.config.h
+    → stain (point_at (pos x) (pos y)) ≡ false
+    → colour_at (latest s) x y ≡ colour_at (painter setup s.windows) x y
 
 -- no window waits to be painted
 abbrev pub NoneInvalid : List Win → Type 0
@@ -38,6 +47,11 @@ is_window_call (TextMode trans) = false
 is_window_call (Font font) = false
 is_window_call Save = false
 is_window_call Restore = false
+is_window_call (Fill x0 y0 x1 y1) = false
+is_window_call (Frame x0 y0 x1 y1) = false
+is_window_call (Line x0 y0 x1 y1) = false
+is_window_call (Bitmap bitmap x y) = false
+is_window_call (Text x y string) = false
 is_window_call call = true
 
 -- whether an entry may

@@ -1,5 +1,6 @@
 -- How the tree's refusals are answered. No contract of a public function names these.
 use Rattle.std.specs.Prelude.{◌≡◌, ℕ, ◌+◌, List, Option, Some, None, Result, Ok, Err}
+use Rattle.frame.specs.Pictures.{Picture}
 use Rattle.context.specs.Contexts.{Owned, with_owned}
 use Rattle.scene.specs.declared.win.Win.{Win}
 use Rattle.win_tree.specs.Trees.{Scene}
@@ -28,6 +29,11 @@ abbrev pub answered : Result (Unit {0}) Refusal → Reply
 answered (Ok done) = Done
 answered (Err refusal) = Refused refusal
 
+-- nothing is held against a call, or the first reason is
+abbrev pub Passes : Result (Unit {0}) Refusal → Option Refusal → Type 0
+Passes (Ok _) reason = reason ≡ None
+Passes (Err refusal) reason = reason ≡ Some refusal
+
 -- A call that is refused for the first reason, if there is one, changes nothing. Else it makes this
 -- list of the windows.
 abbrev pub Performs : Result (Unit {0}) Refusal → Option Refusal → List Win → Scene → Scene → Type 0
@@ -39,6 +45,11 @@ abbrev pub Alters : Result (Unit {0}) Refusal → Option Refusal → Owned → �
     → Type 0
 Alters (Ok _) reason own task old new = (reason ≡ None) × (new ≡ with_owned old task own)
 Alters (Err refusal) reason own task old new = (reason ≡ Some refusal) × (new ≡ old)
+
+-- the same for a call that draws this picture
+abbrev pub Draws : Result (Unit {0}) Refusal → Option Refusal → Picture → Picture → Picture → Type 0
+Draws (Ok _) reason now old new = (reason ≡ None) × (new ≡ now)
+Draws (Err refusal) reason now old new = (reason ≡ Some refusal) × (new ≡ old)
 
 -- the same for a call that gives the next handle to a new window
 abbrev pub Creates : Result ℕ Refusal → Option Refusal → List Win → Scene → Scene → Type 0

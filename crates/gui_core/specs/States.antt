@@ -6,6 +6,10 @@ use Rattle.std.specs.Option.{option_map_or}
 use Rattle.gfx_base.specs.declared.rect.Rect.{Rect}
 use Rattle.frame.specs.Pictures.{Picture, picture_of}
 use Rattle.context.specs.Contexts.{Owned, first_contexts, owned_by, with_owned, with_context, after_save, after_restore}
+use Rattle.context.specs.declared.context.Context.{Context}
+use Rattle.paint_ops.specs.Kinds.{Assets}
+use Rattle.strokes.specs.declared.shape.Shape.{Shape}
+use Rattle.strokes.specs.declared.shape.Shape.TheVariants as shape
 use Rattle.scene.specs.declared.win.Win.{Win}
 use Rattle.scene.specs.Places.{window_of}
 use Rattle.scene.specs.Stacks.{is_bad_size, has_ancestors}
@@ -17,11 +21,12 @@ use Rattle.calls.specs.declared.entry.Entry.TheVariants as entry
 use Rattle.calls.specs.declared.reply.Reply.{Reply}
 use Rattle.calls.specs.declared.reply.Reply.TheVariants.{Done, Handle, Jobs, Refused}
 use Rattle.calls.specs.declared.reply.Refusal.{Refusal}
-use Rattle.calls.specs.declared.reply.Refusal.TheVariants.{NoWindow, Desktop, BadSize, TooManyWindows, TooDeep, NoClass, NoValue, NoFont, ContextDepth, NoContext}
+use Rattle.calls.specs.declared.reply.Refusal.TheVariants.{NoWindow, Desktop, BadSize, TooManyWindows, TooDeep, NoClass, NoValue, NoFont, NoBitmap, NoText, ContextDepth, NoContext}
 use Rattle.gui_core.specs.Setups.{Setup, screen_of}
 use Rattle.gui_core.specs.Windows.{moved_by, with_class, after_change, with_invalid_window, with_invalid_rect, with_invalid_area, with_trans, with_value, with_message}
 use Rattle.invalidate.specs.Invalidation.{is_invalid}
 use Rattle.gui_core.specs.Jobs.{windows_after_job, picture_after_job, jobs_of}
+use Rattle.gui_core.specs.Drawing.{shape_of, after_stroke}
 
 -- the windows from back to front, how many handles were given out, the shown picture, and what each
 -- task draws with and saved
@@ -92,6 +97,14 @@ no_value index = (nat_le 16 index, NoValue index)
 abbrev pub unknown_font : ℕ → ℕ → Objection
 unknown_font fonts font = (nat_le fonts font, NoFont font)
 
+-- there are only so many bitmaps
+abbrev pub unknown_bitmap : ℕ → ℕ → Objection
+unknown_bitmap bitmaps bitmap = (nat_le bitmaps bitmap, NoBitmap bitmap)
+
+-- there are only so many strings
+abbrev pub unknown_text : ℕ → ℕ → Objection
+unknown_text strings string = (nat_le strings string, NoText string)
+
 -- there is no such window, or it is the desktop, which stays as it is
 abbrev pub unchangeable : List Win → ℕ → List Objection
 unchangeable ws h = no_window ws h ∷ (h == 1, Desktop) ∷ []
@@ -131,12 +144,32 @@ context_objections fonts ws own Save = (length own.saved == 8, ContextDepth) ∷
 context_objections fonts ws own Restore = (length own.saved == 0, NoContext) ∷ []
 context_objections fonts ws own call = []
 
+-- what a shape names that isn't there
+abbrev pub shape_objections : Assets → Context → Shape → List Objection
+shape_objections assets c (shape.Bitmap bitmap x y) =
+    unknown_bitmap (length assets.bitmaps) bitmap ∷ []
+shape_objections assets c (shape.Text x y string) =
+    unknown_text (length assets.strings) string ∷ unknown_font (length assets.fonts) c.font ∷ []
+shape_objections assets c shape = []
+
+-- what may be held against drawing a shape with a context: what it names, and then the window that
+-- the context selects
+abbrev pub stroke_objections : Assets → List Win → Context → Shape → List Objection
+stroke_objections assets ws c shape = shape_objections assets c shape ++ no_window ws c.window ∷ []
+
+-- what may be held against a call that isn't on a context: of a shape, if it draws one
+abbrev pub other_objections : Setup → State → ℕ → Option Shape → Call → List Objection
+other_objections setup s actor None call =
+    objections (length setup.assets.classes) s.windows call
+other_objections setup s actor (Some shape) call =
+    stroke_objections setup.assets s.windows (owned_by s.contexts actor).context shape
+
 -- what may be held against a call of an actor, in order
 abbrev pub objections_to : Setup → State → ℕ → Call → List Objection
 objections_to setup s actor call =
     if is_context_call call
     then context_objections (length setup.assets.fonts) s.windows (owned_by s.contexts actor) call
-    else objections (length setup.assets.classes) s.windows call
+    else other_objections setup s actor (shape_of call) call
 
 -- the first that holds
 abbrev pub refusal_of : List Objection → Option Refusal
@@ -235,12 +268,26 @@ abbrev pub with_own : State → ℕ → Owned → Step
 with_own s task own =
     record { state = record s { contexts = with_owned s.contexts task own }; reply = Done }
 
+-- a shape is drawn with a context
+abbrev pub stroke_done : Setup → State → Context → Shape → Step
+stroke_done setup s c shape =
+    record {
+      state = with_latest s (after_stroke setup s.windows c shape (latest s));
+      reply = Done;
+    }
+
+-- what a call does that isn't on a context and isn't refused: it draws a shape, if it is one's
+abbrev pub other_effect : Setup → State → ℕ → Option Shape → Call → Step
+other_effect setup s actor None call = effect setup s call
+other_effect setup s actor (Some shape) call =
+    stroke_done setup s (owned_by s.contexts actor).context shape
+
 -- what a call of an actor does that isn't refused
 abbrev pub effect_of : Setup → State → ℕ → Call → Step
 effect_of setup s actor call =
     if is_context_call call
     then with_own s actor (context_after (owned_by s.contexts actor) call)
-    else effect setup s call
+    else other_effect setup s actor (shape_of call) call
 
 -- ---- steps
 

@@ -5,6 +5,7 @@ ghost use Rattle.calls.specs.Actors.{fits};
 
 use crate::change::Change;
 use crate::contexts::{ContextChange, change_context};
+use crate::drawing::draw;
 use crate::windows::{NewWindow, Windows};
 use calls::{Call, Config, Refusal, Reply};
 use context::Contexts;
@@ -16,6 +17,7 @@ use paint_ops::{Assets, Class};
 use scene::{Stack, paint_whole, screen};
 use std::alloc::Global;
 use std::marker::Model;
+use strokes::Shape;
 
 /// The core of one screen.
 #[derive(Drop)]
@@ -108,7 +110,7 @@ impl Gui {
     ghost use Rattle.invalidate.specs.Invalidation.{is_invalid};
     ghost use Rattle.calls.specs.declared.call.Call.TheVariants.{Create};
     ghost use Rattle.gui_core.specs.Jobs.{jobs_of};
-    ghost use Rattle.gui_core.specs.Changes.{call_for, context_call};
+    ghost use Rattle.gui_core.specs.Changes.{call_for, context_call, stroke_call};
     ghost use Rattle.gui_core.specs.States.{after_job, after_jobs, is_refused};
     ghost use Rattle.gui_core.specs.Machines.{IsConfig, Takes, TakesAlike, Answers, starting};
 
@@ -319,6 +321,19 @@ impl Gui {
         ))
     }
 
+    fn stroke(&mut self, task: u16, shape: &Shape) -> Reply
+        requires { (1 ≤ task) × (task ≤ 16) }
+        ensures { Takes self.old task (stroke_call shape.now) self.new result }
+    {
+        answered(draw(
+            self.windows.stack(),
+            self.contexts.get(task),
+            shape,
+            &self.assets,
+            &mut self.shown,
+        ))
+    }
+
     /// Makes a call of an actor that is counted already.
     fn take(&mut self, actor: u16, call: &Call) -> Reply
         requires actor { (1 ≤ actor) × (actor ≤ 16) }
@@ -366,6 +381,11 @@ impl Gui {
             Call::Font { font } => self.change_context(actor, ContextChange::Font { font }),
             Call::Save => self.change_context(actor, ContextChange::Save),
             Call::Restore => self.change_context(actor, ContextChange::Restore),
+            Call::Fill { x0, y0, x1, y1 } => self.stroke(actor, &Shape::Fill(x0, y0, x1, y1)),
+            Call::Frame { x0, y0, x1, y1 } => self.stroke(actor, &Shape::Frame(x0, y0, x1, y1)),
+            Call::Line { x0, y0, x1, y1 } => self.stroke(actor, &Shape::Line(x0, y0, x1, y1)),
+            Call::Bitmap { bitmap, x, y } => self.stroke(actor, &Shape::Bitmap(bitmap, x, y)),
+            Call::Text { x, y, string } => self.stroke(actor, &Shape::Text(x, y, string)),
             Call::Invalidate { h } => self.invalidate(h),
             Call::InvalidateRect { h, x0, y0, x1, y1 } => {
                 self.invalidate_rect(h, &local_rect(x0, y0, x1, y1))

@@ -1,7 +1,7 @@
 //! Laws of the definitions, each as the contract of a function that does nothing.
 
 ghost use Rattle.std.specs.Prelude.{◌≡◌, ◌≤◌, ℕ, false, List};
-ghost use Rattle.std.specs.List.{AllByRecursion};
+ghost use Rattle.std.specs.List.{AllByRecursion, list_any};
 ghost use Rattle.gfx_base.specs.declared.point.Point.{Point};
 ghost use Rattle.scene.specs.declared.win.Win.{Win};
 ghost use Rattle.scene.specs.Painting.{windows_at, visible, painted_over, painted};
@@ -10,19 +10,29 @@ ghost use Rattle.calls.specs.declared.entry.Entry.{Entry};
 ghost use Rattle.calls.specs.declared.entry.Entry.TheVariants as entry;
 ghost use Rattle.gui_core.specs.Setups.{Setup, looks_of, painter};
 ghost use Rattle.gui_core.specs.States.{State, latest, opening, step, state_after};
-ghost use Rattle.gui_core.specs.Promises.{IsRightOutsideDamage, NoneInvalid, window_calls, changes_contexts, IsByAnother};
+ghost use Rattle.gui_core.specs.Stains.{Stain, no_stain, stained, stain_after, draws};
+ghost use Rattle.gui_core.specs.Promises.{IsRightOutside, IsPainterOutside, NoneInvalid, window_calls, changes_contexts, IsByAnother};
 
 use calls::{Call, Refusal, Reply};
 
-/// Does nothing. After any calls the latest picture is the painter's outside the damage, and the
-/// whole painter's picture where no window waits to be painted.
+/// Does nothing. After any calls the latest picture is the painter's outside the damage and the
+/// stain, which is what tasks drew directly and no job has painted since. Where no window waits to
+/// be painted it is the painter's outside the stain, and where no task drew the whole painter's
+/// picture. A call that draws nothing stains no point.
 pub fn damage_covers_change()
     ensures covers { (setup : Setup) (es : List Entry)
-        → IsRightOutsideDamage setup (state_after setup (opening setup) es) }
+        → IsRightOutside setup (state_after setup (opening setup) es)
+        (stain_after setup (opening setup) es no_stain) }
     ensures quiet { (setup : Setup) (es : List Entry)
+        → NoneInvalid (state_after setup (opening setup) es).windows
+        → IsPainterOutside setup (state_after setup (opening setup) es)
+        (stain_after setup (opening setup) es no_stain) }
+    ensures undrawn { (setup : Setup) (es : List Entry) → list_any draws es ≡ false
         → NoneInvalid (state_after setup (opening setup) es).windows
         → latest (state_after setup (opening setup) es)
         ≡ painter setup (state_after setup (opening setup) es).windows }
+    ensures clean { (setup : Setup) (s : State) (e : Entry) (stain : Stain) (p : Point)
+        → draws e ≡ false → stain p ≡ false → stained setup s e stain p ≡ false }
     ensures exec { (setup : Setup) (s : State) (actor : ℕ)
         → NoneInvalid (step setup s (entry.Call actor Call.Exec)).state.windows }
     ensures visible { (setup : Setup) (ws : List Win) (p : Point)

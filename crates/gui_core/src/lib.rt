@@ -4,6 +4,7 @@
 
 mod change;
 mod contexts;
+mod drawing;
 mod gui;
 mod jobs;
 pub mod laws;

@@ -69,7 +69,7 @@ impl Model for Windows {
 }
 
 /// The place of the window that has the handle, if there is one.
-fn place_of(stack: &[Win], h: u32) -> Option<usize>
+pub fn place_of(stack: &[Win], h: u32) -> Option<usize>
     ensures { result ≡ position (λ w. w.handle == h) stack.now }
 {
     stack.iter().position(|w| w.handle == h)

@@ -5,7 +5,7 @@ use Rattle.spelling.specs.Digits.{hex_colour}
 use Rattle.calls.specs.declared.call.Call.{Call}
 use Rattle.calls.specs.declared.call.Call.TheVariants.{Scan}
 use Rattle.calls.specs.declared.reply.Refusal.{Refusal}
-use Rattle.calls.specs.declared.reply.Refusal.TheVariants.{NoWindow, Desktop, BadSize, TooManyWindows, TooDeep, NoClass, NoValue, NoFont, ContextDepth, NoContext}
+use Rattle.calls.specs.declared.reply.Refusal.TheVariants.{NoWindow, Desktop, BadSize, TooManyWindows, TooDeep, NoClass, NoValue, NoFont, ContextDepth, NoContext, NoBitmap, NoText}
 use Rattle.calls.specs.declared.reply.Reply.{Reply}
 use Rattle.calls.specs.declared.reply.Reply.TheVariants.{Done, Handle, Jobs, Refused}
 use Rattle.frame.specs.Pictures.{Picture, rows_of}
@@ -60,6 +60,8 @@ refusal_text (NoValue index) = codes "refused NoValue " ++ decimal index ++ code
 refusal_text (NoFont font) = codes "refused NoFont " ++ decimal font ++ codes "\n"
 refusal_text ContextDepth = codes "refused ContextDepth\n"
 refusal_text NoContext = codes "refused NoContext\n"
+refusal_text (NoBitmap bitmap) = codes "refused NoBitmap " ++ decimal bitmap ++ codes "\n"
+refusal_text (NoText string) = codes "refused NoText " ++ decimal string ++ codes "\n"
 
 -- the answer where a call is done: a scan's is the shown picture
 abbrev pub done_text : Call → Picture → List ℕ

@@ -114,6 +114,8 @@ fn write_refusal<K: Sink>(out: &mut K, refusal: &Refusal) -> Result<(), SinkFaul
         Refusal::NoFont(font) => write_number(out, b"refused NoFont ", *font),
         Refusal::ContextDepth => out.write(b"refused ContextDepth\n"),
         Refusal::NoContext => out.write(b"refused NoContext\n"),
+        Refusal::NoBitmap(bitmap) => write_number(out, b"refused NoBitmap ", *bitmap),
+        Refusal::NoText(string) => write_number(out, b"refused NoText ", *string),
     }
 }
 

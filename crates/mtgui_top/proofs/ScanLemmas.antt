@@ -9,7 +9,7 @@ use Rattle.script.specs.Scripts.{Script}
 use Rattle.journal.specs.Texts.{frame_text}
 use Rattle.gui_core.specs.Setups.{Setup}
 use Rattle.gui_core.specs.States.{State, opening, step}
-use Rattle.gui_core.proofs.CallerLemmas.{quiet_is_painter}
+use Rattle.gui_core.proofs.CallerLemmas.{quiet_is_painter, undrawn_is_painter}
 use Rattle.mtgui_top.specs.Playing.{setup_of, state_past, answer_text, replies, summary_of, after_lines, play_text}
 use Rattle.mtgui_top.specs.Promises.{state_at, ScansShowPainter}
 use Rattle.mtgui_top.proofs.PlayLemmas.{after_first}
@@ -43,4 +43,5 @@ pub scans_show_painter : (script : Script) → ScansShowPainter script
 scans_show_painter script = record {
   text = text_at script;
   picture = λ front none. quiet_is_painter (setup_of script) (entries_of front) none;
+  undrawn = λ front undrawn none. undrawn_is_painter (setup_of script) (entries_of front) undrawn none;
 }

@@ -1,23 +1,31 @@
 -- What holds of a script's play text.
-use Rattle.std.specs.Prelude.{◌≡◌, ℕ, List, ◌∷◌, ◌++◌}
+use Rattle.std.specs.Prelude.{◌≡◌, ℕ, false, List, ◌∷◌, ◌++◌}
+use Rattle.std.specs.List.{list_any}
 use Rattle.calls.specs.declared.call.Call.TheVariants.{Scan}
 use Rattle.calls.specs.declared.line.Line.{Line}
 use Rattle.calls.specs.declared.line.Act.TheVariants as act
 use Rattle.calls.specs.declared.line.Line.TheVariants.{Task}
+use Rattle.calls.specs.Lines.{entries_of}
 use Rattle.script.specs.Scripts.{Script}
 use Rattle.journal.specs.Texts.{frame_text}
 use Rattle.gui_core.specs.Setups.{painter}
 use Rattle.gui_core.specs.States.{State, opening}
-use Rattle.gui_core.specs.Promises.{NoneInvalid}
+use Rattle.gui_core.specs.Stains.{Stain, no_stain, stain_after, draws}
+use Rattle.gui_core.specs.Promises.{IsPainterOutside, NoneInvalid}
 use Rattle.mtgui_top.specs.Playing.{setup_of, replies, summary_of, after_lines, play_text}
 
 -- the state after the first lines of a script
 abbrev pub state_at : Script → List Line → State
 state_at script front = after_lines (setup_of script) (opening (setup_of script)) front
 
+-- the points that tasks drew on directly in these lines, and that no job has painted since
+abbrev pub stain_at : Script → List Line → Stain
+stain_at script front =
+    stain_after (setup_of script) (opening (setup_of script)) (entries_of front) no_stain
+
 -- At a scan the play text has the picture that is shown there, between the answers to the lines
--- before and what follows; and wherever no window waits to be painted the picture that is shown is
--- the painter's of the windows.
+-- before and what follows. Wherever no window waits to be painted, the picture that is shown is the
+-- painter's of the windows at each point that isn't stained, and all of it where no task drew.
 pub record ScansShowPainter (script : Script) : Type 0 where
   pub text : (front rest : List Line) (task : ℕ)
       → script.lines ≡ front ++ Task task (act.Call Scan) ∷ rest
@@ -27,4 +35,7 @@ pub record ScansShowPainter (script : Script) : Type 0 where
       ++ (replies (setup_of script) (state_at script front) rest
       ++ summary_of (setup_of script) (opening (setup_of script)) script.lines))
   pub picture : (front : List Line) → NoneInvalid (state_at script front).windows
+      → IsPainterOutside (setup_of script) (state_at script front) (stain_at script front)
+  pub undrawn : (front : List Line) → list_any draws (entries_of front) ≡ false
+      → NoneInvalid (state_at script front).windows
       → (state_at script front).shown ≡ painter (setup_of script) (state_at script front).windows

@@ -134,8 +134,8 @@ fn play_script<K: Sink>(alloc: Global, script: Script, out: &mut K) -> Result<()
     Ok(())
 }
 
-/// Whether a call may change where windows are, or what they are. The others paint, look, or change
-/// what a task draws with.
+/// Whether a call may change where windows are, or what they are. The others paint, look, draw, or
+/// change what a task draws with.
 fn is_window_call(call: &Call) -> bool
     ensures { result ≡ is_window_call call.now }
 {
@@ -151,6 +151,11 @@ fn is_window_call(call: &Call) -> bool
             | Call::Font { .. }
             | Call::Save
             | Call::Restore
+            | Call::Fill { .. }
+            | Call::Frame { .. }
+            | Call::Line { .. }
+            | Call::Bitmap { .. }
+            | Call::Text { .. }
     )
 }
 

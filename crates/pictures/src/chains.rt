@@ -10,7 +10,8 @@ const SCENE: &str = "1 create 1 2 1 12 9 1\n1 create 2 1 1 6 5 2\n1 create 2 4 2
     1 create 1 0 6 7 8 3\n1 hide 8\n1 create 2 3 2 9 6 5\n1 create 9 1 1 5 9 1\n\
     1 set_trans 10 1\n1 exec\n";
 
-/// Calls of each kind, parted by `/`. Some change nothing, and some are refused.
+/// Calls of each kind, parted by `/`. Some change nothing, and some are refused. What is drawn is
+/// to be painted over.
 const CALLS: &str = "create 1 5 5 9 6 3/create 3 -1 2 9 9 4/create 8 1 1 3 3 1/create 1 30 2 3 3 1/\
     create 99 0 0 1 1 1/create 1 0 0 0 1 1/create 1 0 0 1 1 9/delete 2/delete 4/delete 5/delete 8/\
     delete 1/move_to 2 9 6/move_to 3 -4 -3/move_to 5 -30 0/move_to 8 4 4/move_to 2 2 1/\
@@ -23,7 +24,8 @@ const CALLS: &str = "create 1 5 5 9 6 3/create 3 -1 2 9 9 4/create 8 1 1 3 3 1/c
     set_value 9 1 -12/set_value 8 1 2/set_value 4 15 0/set_value 1 0 1/set_value 3 16 0/\
     send 10 0 3/send 3 1 -2/send 6 0 9/send 9 1 32767/send 8 2 1/send 4 9 1/send 1 0 1/\
     send 99 0 0/select 5/select 99/colour FF8000/bk_colour 0080FF/text_mode trans/font 0/save/\
-    restore";
+    restore/fill -3 -3 40 40\n1 invalidate_area 0 0 23 15/\
+    text 2 3 0\n1 bitmap 0 9 4\n1 invalidate_area 0 0 23 15";
 
 fn add_call(script: &mut String, call: &str) -> Result<(), AllocError> {
     writeln!(script, "1 {call}")

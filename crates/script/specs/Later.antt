@@ -1,5 +1,5 @@
 -- The words that decide what form a line is of, and which forms aren't built yet.
-use Rattle.std.specs.Prelude.{ℕ, Bool, false, List, [], ◌∷◌, ◌++◌, bytes_eq, codes}
+use Rattle.std.specs.Prelude.{ℕ, Bool, false, List, [], ◌∷◌, bytes_eq, codes}
 use Rattle.std.specs.List.{list_any}
 use Rattle.spelling.specs.Words.{words_of}
 
@@ -22,9 +22,7 @@ later_words = codes "display viewer done"
 
 -- second words, after a task
 unfoldable pub later_calls : List ℕ
-later_calls =
-    codes "set_memdev fill frame line bitmap text dev_create dev_delete dev_select dev_copy " ++
-    codes "begin end"
+later_calls = codes "set_memdev dev_create dev_delete dev_select dev_copy begin end"
 
 -- the words after a task are of a call that isn't built
 abbrev pub is_later_call : List (List ℕ) → Bool

@@ -183,6 +183,34 @@ fn call_with(word: Word, args: &mut Args) -> Option<Call>
         Word::Font => Some(Call::Font { font: args.byte()? }),
         Word::Save => Some(Call::Save),
         Word::Restore => Some(Call::Restore),
+        Word::Fill => Some(Call::Fill {
+            x0: args.number()?,
+            y0: args.number()?,
+            x1: args.number()?,
+            y1: args.number()?,
+        }),
+        Word::Frame => Some(Call::Frame {
+            x0: args.number()?,
+            y0: args.number()?,
+            x1: args.number()?,
+            y1: args.number()?,
+        }),
+        Word::Line => Some(Call::Line {
+            x0: args.number()?,
+            y0: args.number()?,
+            x1: args.number()?,
+            y1: args.number()?,
+        }),
+        Word::Bitmap => Some(Call::Bitmap {
+            bitmap: args.byte()?,
+            x: args.number()?,
+            y: args.number()?,
+        }),
+        Word::Text => Some(Call::Text {
+            x: args.number()?,
+            y: args.number()?,
+            string: args.byte()?,
+        }),
         Word::Invalidate => Some(Call::Invalidate { h: args.handle()? }),
         Word::InvalidateRect => Some(Call::InvalidateRect {
             h: args.handle()?,

@@ -56,7 +56,6 @@ pub type Faulty = (u32, Reason, &'static str, &'static str);
 /// word after it. What follows these words isn't looked at.
 const LATER: &str = "display tick\n|display|display x\n|viewer 1 join\n|viewer 9 x\n|viewer\n\
     |viewer  1 take\n|done\n|done 1\n|done|1 set_memdev 0\n|2 set_memdev x\n|1 set_memdev \n\
-    |1 fill 0 0 1 1\n|1 frame 0 0 1 1\n|1 line 0 0 1 1\n|1 bitmap 0 0 0\n|1 text 0 0 0\n\
     |1 dev_create 2 2\n|1 dev_delete 2\n|1 dev_select 2\n|1 dev_copy 2 0 0\n|1 begin\n\
     |2 begin|1 end\n|16 end 1\n";
 
@@ -67,7 +66,8 @@ const NOT_LATER: &str = "0 begin\n|17 begin\n|01 begin\n|-1 end\n|begin\n|1 Begi
     |1 display tick\n|1 viewer 1 join\n|1 tick\n|1 done\n|1 exec\n|16 scan|1 lock\n|1 unlock\n\
     |1 set_trans 2 1\n|1 set_value 2 0 1\n|1 send 2 1 1\n|1 hide x\n|1 jump\n|buffers 2\n\
     |1 select 2\n|1 colour FF0000\n|1 bk_colour -\n|1 text_mode trans\n|1 font 0\n|1 save\n\
-    |2 save x\n|16 restore\n\
+    |2 save x\n|16 restore\n|1 fill 0 0 1 1\n|1 frame 0 0 1 1\n|1 line x\n|1 bitmap 0 0 0\n\
+    |16 text 0 0 0\n\
     |buffers 3\n|class 2 -\n|class 1 -\n|font 1 1\n|font 0 1\n|bitmap 0 1 1\n|string 0 a\n\
     |mtgui 1\n";
 
@@ -494,7 +494,7 @@ const IN_PICTURES: [Faulty; 17] = [
         HEADER,
         "font 0 1\nglyph 65 1\n#\n1 begin\n|font 0 1\nglyph 65 1\n#\ndone|font 0 1\nglyph 65 1\n.\n\
         display tick\n|bitmap 0 1 2\n-\n-\n2 begin\n|bitmap 0 1 2\n-\n-\nviewer 1 join\n\
-        |bitmap 0 1 2\n-\n-\n1 end\n|bitmap 0 1 3\n-\n-\n16 frame",
+        |bitmap 0 1 2\n-\n-\n1 end\n|bitmap 0 1 3\n-\n-\n16 dev_copy",
     ),
     // Forms that are built, and other spellings.
     (6, Reason::Block, FONT, NOT_LATER),
@@ -523,7 +523,7 @@ fn the_first_fault_of_fonts_and_bitmaps(rt: HostRuntime) {
 }
 
 /// Faults of call lines.
-const IN_CALLS: [Faulty; 17] = [
+const IN_CALLS: [Faulty; 23] = [
     // The task, and the form of a line.
     (
         5,
@@ -636,13 +636,68 @@ const IN_CALLS: [Faulty; 17] = [
         "1 save 1\n|1 save \n|2 save x\n|1 saved\n|1 Save\n|1  save\n|0 save\n|17 save\n|01 save\n\
         |save\n|1 restore 1\n|1 restore \n|1 restores\n|1 Restore\n|17 restore\n|restore\n",
     ),
+    (
+        5,
+        Reason::Call,
+        HEADER,
+        "1 fill\n|1 fill \n|1 fill 0 0 1\n|1 fill 0 0 1 1 1\n|1 fill 0 0 1 1 \n\
+        |1 fill -32769 0 1 1\n|1 fill 0 32768 1 1\n|1 fill 0 0 -32769 1\n|1 fill 0 0 1 32768\n\
+        |1 fill 00 0 1 1\n|1 fill 0 -0 1 1\n|1 fill 0 0 +1 1\n|1 fill 0 0 1 x\n\
+        |1 fill  0 0 1 1\n|1 Fill 0 0 1 1\n|1 fills 0 0 1 1\n|17 fill 0 0 1 1\n\
+        |fill 0 0 1 1\n",
+    ),
+    (
+        5,
+        Reason::Call,
+        HEADER,
+        "1 frame\n|1 frame 0 0 1\n|1 frame 0 0 1 1 1\n|1 frame 0 0 1 1 \n\
+        |1 frame 32768 0 1 1\n|1 frame 0 -32769 1 1\n|1 frame 0 0 32768 1\n\
+        |1 frame 0 0 1 -32769\n|1 frame 0 0 01 1\n|1 Frame 0 0 1 1\n|1 frames 0 0 1 1\n\
+        |frame 0 0 1 1\n",
+    ),
+    (
+        5,
+        Reason::Call,
+        HEADER,
+        "1 line\n|1 line 0 0 1\n|1 line 0 0 1 1 1\n|1 line 0 0 1 1 \n|1 line -32769 0 1 1\n\
+        |1 line 0 32768 1 1\n|1 line 0 0 -32769 1\n|1 line 0 0 1 32768\n|1 line 0 0 1 01\n\
+        |1 Line 0 0 1 1\n|1 lines 0 0 1 1\n|1 hline 0 1 0\n|1 vline 0 0 1\n|line 0 0 1 1\n",
+    ),
+    (
+        5,
+        Reason::Call,
+        HEADER,
+        "1 bitmap\n|1 bitmap 0\n|1 bitmap 0 0\n|1 bitmap 0 0 0 0\n|1 bitmap 0 0 0 \n\
+        |1 bitmap -1 0 0\n|1 bitmap 256 0 0\n|1 bitmap 00 0 0\n|1 bitmap 0 -32769 0\n\
+        |1 bitmap 0 32768 0\n|1 bitmap 0 0 -32769\n|1 bitmap 0 0 32768\n|1 bitmap x 0 0\n\
+        |1 Bitmap 0 0 0\n|1 bitmaps 0 0 0\n|0 bitmap 0 0 0\n",
+    ),
+    (
+        5,
+        Reason::Call,
+        HEADER,
+        "1 text\n|1 text 0\n|1 text 0 0\n|1 text 0 0 0 0\n|1 text 0 0 0 \n\
+        |1 text -32769 0 0\n|1 text 32768 0 0\n|1 text 0 -32769 0\n|1 text 0 32768 0\n\
+        |1 text 0 0 -1\n|1 text 0 0 256\n|1 text 0 0 00\n|1 text 0 0 a\n|1 Text 0 0 0\n\
+        |1 texts 0 0 0\n|1 text mode trans\n|01 text 0 0 0\n|text 0 0 0\n",
+    ),
+    // A colour, or a coordinate by a side or a value, is for a class's lines of the same words.
+    (
+        5,
+        Reason::Call,
+        HEADER,
+        "1 fill 0 0 1 1 000000\n|1 fill 0 0 w-1 1\n|1 frame 0 0 1 1 FFFFFF\n|1 frame 0 0 w h\n\
+        |1 line 0 0 1 1 0000FF\n|1 line 0 0 1 v0\n|1 bitmap 0 w-1 0\n|1 bitmap 0 1 v15+2\n\
+        |1 text 0 0 0 FFFFFF 0\n|1 text 0 0 FFFFFF 0\n|1 text w 0 0\n\
+        |1 number 0 0 0 FFFFFF 1\n",
+    ),
     // Not built yet.
     (5, Reason::Later, HEADER, LATER),
     (
         6,
         Reason::Later,
         HEADER,
-        "1 exec\n1 text\n|1 exec\ndone\n|1 lock\n1 fill\n|1 lock\ndisplay tick|1 lock\n2 begin\n",
+        "1 exec\n1 end\n|1 exec\ndone\n|1 lock\n1 begin\n|1 lock\ndisplay tick|1 lock\n2 begin\n",
     ),
     // Other spellings of those.
     (

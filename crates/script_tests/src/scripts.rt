@@ -66,7 +66,8 @@ const EACH_CALL: &str = "mtgui 1\nscreen 8 4\nbuffers 1\ndesktop 000000\n\
     14 send 13 255 32767\n15 invalidate 14\n16 invalidate_rect 15 1 2 3 4\n\
     1 invalidate_area -1 -2 3 4\n2 exec\n3 exec1\n4 scan\n5 select 16\n6 colour FF8001\n\
     7 bk_colour 0180FF\n8 text_mode normal\n9 text_mode trans\n10 font 255\n11 save\n\
-    12 restore\n";
+    12 restore\n13 fill -32768 -1 0 32767\n14 frame 32767 2 -3 -32768\n15 line 1 -2 3 -4\n\
+    16 bitmap 255 -32768 32767\n1 text 32767 -32768 255\n";
 
 #[test]
 fn each_word_is_its_call(rt: HostRuntime) {
@@ -145,6 +146,34 @@ fn each_word_is_its_call(rt: HostRuntime) {
         Call::Font { font: 255 },
         Call::Save,
         Call::Restore,
+        Call::Fill {
+            x0: i16::MIN,
+            y0: -1,
+            x1: 0,
+            y1: i16::MAX,
+        },
+        Call::Frame {
+            x0: i16::MAX,
+            y0: 2,
+            x1: -3,
+            y1: i16::MIN,
+        },
+        Call::Line {
+            x0: 1,
+            y0: -2,
+            x1: 3,
+            y1: -4,
+        },
+        Call::Bitmap {
+            bitmap: 255,
+            x: i16::MIN,
+            y: i16::MAX,
+        },
+        Call::Text {
+            x: i16::MAX,
+            y: i16::MIN,
+            string: 255,
+        },
     ];
     let mut task = 0u16;
     for (read, call) in script.lines.iter().zip(&calls) {
@@ -156,7 +185,7 @@ fn each_word_is_its_call(rt: HostRuntime) {
 
 /// Texts of the least and the greatest numbers, with the screen's sides, the desktop's colour and
 /// the number of calls.
-const ENDS_OF_RANGES: [(&str, u16, u16, u32, u32); 9] = [
+const ENDS_OF_RANGES: [(&str, u16, u16, u32, u32); 10] = [
     (
         "mtgui 1\nscreen 1 1\nbuffers 1\ndesktop FFFFFF",
         1,
@@ -210,6 +239,16 @@ const ENDS_OF_RANGES: [(&str, u16, u16, u32, u32); 9] = [
         4,
         0,
         8,
+    ),
+    (
+        "mtgui 1\nscreen 8 4\nbuffers 1\ndesktop 000000\n1 fill -32768 -32768 32767 32767\n\
+        1 frame 32767 32767 -32768 -32768\n1 line -32768 32767 32767 -32768\n\
+        1 bitmap 0 -32768 -32768\n1 bitmap 255 32767 32767\n1 text -32768 -32768 0\n\
+        16 text 32767 32767 255",
+        8,
+        4,
+        0,
+        7,
     ),
     // Lines on the lock are no calls.
     (

@@ -111,8 +111,20 @@ const CREATE: Call = Call::Create {
     class: 5,
 };
 
+const BITMAP: Call = Call::Bitmap {
+    bitmap: 0,
+    x: -1,
+    y: 2,
+};
+
+const TEXT: Call = Call::Text {
+    x: -1,
+    y: 2,
+    string: 0,
+};
+
 /// Calls, what they are answered, and the answer's line.
-const ANSWERS: [(Call, Reply, &str); 13] = [
+const ANSWERS: [(Call, Reply, &str); 17] = [
     (Call::Exec, Reply::Done, "ok\n"),
     (CREATE, Reply::Handle(70_000), "ok 70000\n"),
     (Call::Exec, Reply::Jobs(12), "ok 12\n"),
@@ -161,6 +173,22 @@ const ANSWERS: [(Call, Reply, &str); 13] = [
         Call::Restore,
         Reply::Refused(Refusal::NoContext),
         "refused NoContext\n",
+    ),
+    (BITMAP, Reply::Done, "ok\n"),
+    (
+        BITMAP,
+        Reply::Refused(Refusal::NoBitmap(0)),
+        "refused NoBitmap 0\n",
+    ),
+    (
+        TEXT,
+        Reply::Refused(Refusal::NoText(0)),
+        "refused NoText 0\n",
+    ),
+    (
+        TEXT,
+        Reply::Refused(Refusal::NoText(255)),
+        "refused NoText 255\n",
     ),
 ];
 

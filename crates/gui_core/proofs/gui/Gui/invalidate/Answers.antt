@@ -16,4 +16,4 @@ invariant_of-self c =
 pub returns : goal.returns
 returns c =
     let m = the_view c.self.inside in
-    record { by = λ actor. replied _ m actor (Invalidate c.args.h) c.invalidate.result (with_invalid_window (screen_of m.setup) c.args.h m.state.windows) c.invalidate.new.self _ refl c.self.view_is c.answered.ensures (rw c.screen-screen.ensures at c.invalidate.ensures) refl }
+    record { by = λ actor. replied _ m actor (Invalidate c.args.h) c.invalidate.result (with_invalid_window (screen_of m.setup) c.args.h m.state.windows) c.invalidate.new.self _ (refl, refl) c.self.view_is c.answered.ensures (rw c.screen-screen.ensures at c.invalidate.ensures) refl }

@@ -16,7 +16,7 @@ invariant_of-self c =
 pub returns : goal.returns
 returns c =
     let m = the_view c.self.inside in
-    record { by = λ actor. replied _ m actor (InvalidateRect c.args.h c.args.local.now.x0 c.args.local.now.y0 c.args.local.now.x1 c.args.local.now.y1) c.invalidate_rect.result (with_invalid_rect (screen_of m.setup) c.args.h c.args.local.now m.state.windows) c.invalidate_rect.new.self _ refl c.self.view_is c.answered.ensures (rw c.screen-screen.ensures at c.invalidate_rect.ensures) refl }
+    record { by = λ actor. replied _ m actor (InvalidateRect c.args.h c.args.local.now.x0 c.args.local.now.y0 c.args.local.now.x1 c.args.local.now.y1) c.invalidate_rect.result (with_invalid_rect (screen_of m.setup) c.args.h c.args.local.now m.state.windows) c.invalidate_rect.new.self _ (refl, refl) c.self.view_is c.answered.ensures (rw c.screen-screen.ensures at c.invalidate_rect.ensures) refl }
 
 pub invalidate_rect-requires-clause-screen : goal.invalidate_rect-requires-clause-screen
 invalidate_rect-requires-clause-screen c = c.screen-screen.ensures ∙ sym c.self.invariant.scene.screen

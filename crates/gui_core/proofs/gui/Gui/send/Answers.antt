@@ -18,4 +18,4 @@ invariant_of-self c =
 pub returns : goal.returns
 returns c =
     let m = the_view c.self.inside in
-    record { by = λ actor. replied _ m actor (Send c.args.h c.args.message c.args.argument) c.send.result (with_message m.setup.assets (screen_of m.setup) c.args.h c.args.message c.args.argument m.state.windows) c.send.new.self _ refl c.self.view_is c.answered.ensures (rw (c.screen-screen.ensures, to_z-of_z w16 c.args.argument c.ranges.argument) at c.send.ensures) refl }
+    record { by = λ actor. replied _ m actor (Send c.args.h c.args.message c.args.argument) c.send.result (with_message m.setup.assets (screen_of m.setup) c.args.h c.args.message c.args.argument m.state.windows) c.send.new.self _ (refl, refl) c.self.view_is c.answered.ensures (rw (c.screen-screen.ensures, to_z-of_z w16 c.args.argument c.ranges.argument) at c.send.ensures) refl }

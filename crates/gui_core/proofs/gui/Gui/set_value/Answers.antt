@@ -18,4 +18,4 @@ invariant_of-self c =
 pub returns : goal.returns
 returns c =
     let m = the_view c.self.inside in
-    record { by = λ actor. replied _ m actor (SetValue c.args.h c.args.index c.args.value) c.set_value.result (with_value (screen_of m.setup) c.args.h c.args.index c.args.value m.state.windows) c.set_value.new.self _ refl c.self.view_is c.answered.ensures (rw (c.screen-screen.ensures, to_z-of_z w16 c.args.value c.ranges.value) at c.set_value.ensures) refl }
+    record { by = λ actor. replied _ m actor (SetValue c.args.h c.args.index c.args.value) c.set_value.result (with_value (screen_of m.setup) c.args.h c.args.index c.args.value m.state.windows) c.set_value.new.self _ (refl, refl) c.self.view_is c.answered.ensures (rw (c.screen-screen.ensures, to_z-of_z w16 c.args.value c.ranges.value) at c.set_value.ensures) refl }

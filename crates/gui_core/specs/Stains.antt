@@ -1,0 +1,75 @@
+-- The points that tasks drew on directly and that no job has painted since.
+use Rattle.std.specs.Prelude.{ℕ, zero, suc, Bool, false, ◌&&◌, ◌||◌, not, if◌then◌else◌, List, [], ◌∷◌, Option, Some, None, position, is_some}
+use Rattle.std.specs.List.{list_any}
+use Rattle.std.specs.Option.{option_map_or}
+use Rattle.gfx_base.specs.declared.point.Point.{Point}
+use Rattle.context.specs.Contexts.{owned_by}
+use Rattle.scene.specs.declared.win.Win.{Win}
+use Rattle.scene.specs.Damage.{in_patch_at}
+use Rattle.strokes.specs.declared.shape.Shape.{Shape}
+use Rattle.calls.specs.declared.call.Call.{Call}
+use Rattle.calls.specs.declared.call.Call.TheVariants.{Exec, Exec1}
+use Rattle.calls.specs.declared.entry.Entry.{Entry}
+use Rattle.calls.specs.declared.entry.Entry.TheVariants as entry
+use Rattle.invalidate.specs.Invalidation.{is_invalid}
+use Rattle.gui_core.specs.Setups.{Setup, looks_of}
+use Rattle.gui_core.specs.Jobs.{jobs_of}
+use Rattle.gui_core.specs.Drawing.{shape_of, stroke_puts}
+use Rattle.gui_core.specs.States.{State, after_job, step, objections_to, refusal_of}
+
+-- which points are in it
+abbrev pub Stain : Type 0
+Stain = Point → Bool
+
+abbrev pub no_stain : Stain
+no_stain = λ p. false
+
+-- whether the next job paints the point, if there is one
+abbrev pub job_paints : Setup → List Win → Stain
+job_paints setup ws =
+    λ p. option_map_or (λ which. in_patch_at (looks_of setup ws) ws which p)
+    (position is_invalid ws) false
+
+-- a job takes its patch out of the stain
+abbrev pub without_patch : Setup → List Win → Stain → Stain
+without_patch setup ws stain = λ p. stain p && not (job_paints setup ws p)
+
+-- so do several jobs
+abbrev pub stain_after_jobs : Setup → ℕ → State → Stain → Stain
+stain_after_jobs setup zero s stain = stain
+stain_after_jobs setup (suc n) s stain =
+    stain_after_jobs setup n (after_job setup s) (without_patch setup s.windows stain)
+
+-- what a call's jobs leave of the stain
+abbrev pub left_stained : Setup → State → Call → Stain → Stain
+left_stained setup s Exec stain = stain_after_jobs setup (jobs_of s.windows) s stain
+left_stained setup s Exec1 stain =
+    stain_after_jobs setup (if list_any is_invalid s.windows then 1 else 0) s stain
+left_stained setup s call stain = stain
+
+-- a stroke of a task adds its points
+abbrev pub with_points : Setup → State → ℕ → Option Shape → Stain → Stain
+with_points setup s task None stain = stain
+with_points setup s task (Some shape) stain =
+    λ p. stain p || stroke_puts setup s.windows (owned_by s.contexts task).context shape p
+
+-- the stain after a call that isn't refused
+abbrev pub stain_after_call : Setup → State → ℕ → Call → Stain → Stain
+stain_after_call setup s task call stain =
+    with_points setup s task (shape_of call) (left_stained setup s call stain)
+
+-- the stain after an entry; a refused call leaves it
+abbrev pub stained : Setup → State → Entry → Stain → Stain
+stained setup s (entry.Call actor call) stain =
+    if is_some (refusal_of (objections_to setup s actor call)) then stain
+    else stain_after_call setup s actor call stain
+
+-- the stain after the entries of a history
+abbrev pub stain_after : Setup → State → List Entry → Stain → Stain
+stain_after setup s [] stain = stain
+stain_after setup s (e ∷ es) stain =
+    stain_after setup (step setup s e).state es (stained setup s e stain)
+
+-- whether the entry's call draws a shape
+abbrev pub draws : Entry → Bool
+draws (entry.Call actor call) = is_some (shape_of call)
