@@ -14,7 +14,7 @@ use Rattle.calls.specs.declared.line.Line.TheVariants.{Task}
 
 -- ---- kinds of fields
 
--- a window's handle
+-- a window's or a device's handle
 abbrev pub handle : Field
 handle = Natural 0 4294967295
 
@@ -60,6 +60,7 @@ row_of word.ToTop = row (codes "to_top") (handle ∷ []) call.ToTop
 row_of word.ToBottom = row (codes "to_bottom") (handle ∷ []) call.ToBottom
 row_of word.SetClass = row (codes "set_class") (handle ∷ byte ∷ []) call.SetClass
 row_of word.SetTrans = row (codes "set_trans") (handle ∷ flag ∷ []) call.SetTrans
+row_of word.SetMemdev = row (codes "set_memdev") (handle ∷ flag ∷ []) call.SetMemdev
 row_of word.SetValue = row (codes "set_value") (handle ∷ byte ∷ Number ∷ []) call.SetValue
 row_of word.Send = row (codes "send") (handle ∷ byte ∷ Number ∷ []) call.Send
 row_of word.Select = row (codes "select") (handle ∷ []) call.Select
@@ -74,6 +75,10 @@ row_of word.Frame = row (codes "frame") (Number ∷ Number ∷ Number ∷ Number
 row_of word.Line = row (codes "line") (Number ∷ Number ∷ Number ∷ Number ∷ []) call.Line
 row_of word.Bitmap = row (codes "bitmap") (byte ∷ Number ∷ Number ∷ []) call.Bitmap
 row_of word.Text = row (codes "text") (Number ∷ Number ∷ byte ∷ []) call.Text
+row_of word.DevCreate = row (codes "dev_create") (side ∷ side ∷ []) call.DevCreate
+row_of word.DevDelete = row (codes "dev_delete") (handle ∷ []) call.DevDelete
+row_of word.DevSelect = row (codes "dev_select") (handle ∷ []) call.DevSelect
+row_of word.DevCopy = row (codes "dev_copy") (handle ∷ Number ∷ Number ∷ []) call.DevCopy
 row_of word.Invalidate = row (codes "invalidate") (handle ∷ []) call.Invalidate
 row_of word.InvalidateRect =
     row (codes "invalidate_rect") (handle ∷ Number ∷ Number ∷ Number ∷ Number ∷ [])
@@ -91,9 +96,10 @@ name_of_word w = name_of (row_of w)
 abbrev pub all_words : List Word
 all_words =
     word.Create ∷ word.Delete ∷ word.MoveTo ∷ word.MoveBy ∷ word.Resize ∷ word.Show ∷ word.Hide
-    ∷ word.ToTop ∷ word.ToBottom ∷ word.SetClass ∷ word.SetTrans ∷ word.SetValue ∷ word.Send
-    ∷ word.Select ∷ word.Colour ∷ word.BkColour ∷ word.TextMode ∷ word.Font ∷ word.Save
-    ∷ word.Restore ∷ word.Fill ∷ word.Frame ∷ word.Line ∷ word.Bitmap ∷ word.Text
+    ∷ word.ToTop ∷ word.ToBottom ∷ word.SetClass ∷ word.SetTrans ∷ word.SetMemdev
+    ∷ word.SetValue ∷ word.Send ∷ word.Select ∷ word.Colour ∷ word.BkColour ∷ word.TextMode
+    ∷ word.Font ∷ word.Save ∷ word.Restore ∷ word.Fill ∷ word.Frame ∷ word.Line ∷ word.Bitmap
+    ∷ word.Text ∷ word.DevCreate ∷ word.DevDelete ∷ word.DevSelect ∷ word.DevCopy
     ∷ word.Invalidate ∷ word.InvalidateRect ∷ word.InvalidateArea ∷ word.Exec ∷ word.Exec1
     ∷ word.Scan ∷ []
 
@@ -119,6 +125,7 @@ said (call.ToTop h) = say word.ToTop h
 said (call.ToBottom h) = say word.ToBottom h
 said (call.SetClass h class) = say word.SetClass h class
 said (call.SetTrans h trans) = say word.SetTrans h trans
+said (call.SetMemdev h memdev) = say word.SetMemdev h memdev
 said (call.SetValue h index value) = say word.SetValue h index value
 said (call.Send h message argument) = say word.Send h message argument
 said (call.Select h) = say word.Select h
@@ -133,6 +140,10 @@ said (call.Frame x0 y0 x1 y1) = say word.Frame x0 y0 x1 y1
 said (call.Line x0 y0 x1 y1) = say word.Line x0 y0 x1 y1
 said (call.Bitmap bitmap x y) = say word.Bitmap bitmap x y
 said (call.Text x y string) = say word.Text x y string
+said (call.DevCreate w h) = say word.DevCreate w h
+said (call.DevDelete device) = say word.DevDelete device
+said (call.DevSelect device) = say word.DevSelect device
+said (call.DevCopy device x y) = say word.DevCopy device x y
 said (call.Invalidate h) = say word.Invalidate h
 said (call.InvalidateRect h x0 y0 x1 y1) = say word.InvalidateRect h x0 y0 x1 y1
 said (call.InvalidateArea x0 y0 x1 y1) = say word.InvalidateArea x0 y0 x1 y1

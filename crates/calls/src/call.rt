@@ -5,8 +5,9 @@ use gfx_base::Colour;
 
 /// A call of the core. A window is named by its handle. Places, sides and differences are in
 /// points; a window's place is told from its parent's upper left corner. A task's context is what
-/// it draws with. Calls that draw tell places from the upper left corner of the window that the
-/// context selects.
+/// it draws with. A memory device is a picture aside, named by its handle. Calls that draw tell
+/// places from the upper left corner of the device that the context selects, or of the window that
+/// it selects, while it selects no device.
 #[derive(Clone, Copy, Debug, PartialEq, Eq)]
 pub enum Call {
     /// Makes a window in its parent, on top of the parent's children, of the class of this number.
@@ -66,6 +67,11 @@ pub enum Call {
         h: u32,
         trans: bool,
     },
+    /// Lets a window be composed aside before it shows, or no longer.
+    SetMemdev {
+        h: u32,
+        memdev: bool,
+    },
     /// Gives one of a window's sixteen values, which are numbered from 0, another number.
     SetValue {
         h: u32,
@@ -102,7 +108,7 @@ pub enum Call {
     Save,
     /// Gives the context back that the task saved last.
     Restore,
-    /// Fills a rectangle of the window with the context's colour.
+    /// Fills a rectangle with the context's colour.
     Fill {
         x0: i16,
         y0: i16,
@@ -134,6 +140,25 @@ pub enum Call {
         x: i16,
         y: i16,
         string: u8,
+    },
+    /// Makes a device of these sides, of the context's colour for what is behind text.
+    DevCreate {
+        w: u16,
+        h: u16,
+    },
+    /// Deletes a device.
+    DevDelete {
+        device: u32,
+    },
+    /// Selects the device that the task draws on; 0 is the screen.
+    DevSelect {
+        device: u32,
+    },
+    /// Draws a device's picture in the selected window, its upper left corner at a place.
+    DevCopy {
+        device: u32,
+        x: i16,
+        y: i16,
     },
     /// Makes all of a window invalid.
     Invalidate {

@@ -5,7 +5,7 @@ pub enum Refusal {
     NoWindow(u32),
     /// The desktop stays as it is.
     Desktop,
-    /// A side of the window is 0 or over 4,096 points.
+    /// A side is 0 or too long: a window's over 4,096 points, or a device's over 1,024 by 768.
     BadSize,
     /// 256 windows live already, the desktop among them.
     TooManyWindows,
@@ -25,6 +25,12 @@ pub enum Refusal {
     NoBitmap(u8),
     /// There is no string of this number.
     NoText(u8),
+    /// No device that lives has this handle.
+    NoDevice(u32),
+    /// 16 devices live already.
+    TooManyDevices,
+    /// There is no memory for a device.
+    Memory,
 }
 
 /// What a call is answered.
@@ -35,5 +41,7 @@ pub enum Reply {
     Handle(u32),
     /// How many jobs were done.
     Jobs(u16),
+    /// The new device's handle.
+    Device(u32),
     Refused(Refusal),
 }

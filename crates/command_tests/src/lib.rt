@@ -3,6 +3,8 @@
 #![tactic(auto)]
 
 #[cfg(test)]
+mod aside;
+#[cfg(test)]
 mod commands;
 #[cfg(test)]
 mod contexts;

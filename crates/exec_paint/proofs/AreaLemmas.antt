@@ -34,11 +34,11 @@ use Rattle.exec_paint.proofs.RowLemmas.{colour_at-row_mapped, has_shape-row_mapp
 abbrev pub to_row : (ℕ → ℕ → Bool) → ℕ → ℕ → ℕ → Bool
 to_row here y u v = here u v && ltb v y
 
-off : (here test : Bool) → (here ≡ true → test ≡ false) → (here && test) ≡ false
+pub off : (here test : Bool) → (here ≡ true → test ≡ false) → (here && test) ≡ false
 off true test h = h refl
 off false test h = refl
 
-on : (here test : Bool) → (here ≡ true → test ≡ true) → (here && test) ≡ here
+pub on : (here test : Bool) → (here ≡ true → test ≡ true) → (here && test) ≡ here
 on true test h = h refl
 on false test h = refl
 

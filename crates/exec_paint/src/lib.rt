@@ -3,6 +3,7 @@
 #![tactic(auto)]
 
 mod area;
+mod copy;
 mod layer;
 mod plan;
 mod row;

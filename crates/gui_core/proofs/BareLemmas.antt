@@ -92,6 +92,7 @@ objections-bare classes ws (call.ToTop h) = unchangeable-bare ws h
 objections-bare classes ws (call.ToBottom h) = unchangeable-bare ws h
 objections-bare classes ws (call.SetClass h class) = ap (λ (os : List Objection). os ++ no_class classes class ∷ []) (unchangeable-bare ws h)
 objections-bare classes ws (call.SetTrans h trans) = unchangeable-bare ws h
+objections-bare classes ws (call.SetMemdev h memdev) = ap (λ (o : Objection). o ∷ []) (no_window-bare ws h)
 objections-bare classes ws (call.SetValue h index value) = ap (λ (o : Objection). o ∷ no_value index ∷ []) (no_window-bare ws h)
 objections-bare classes ws (call.Send h message argument) = ap (λ (o : Objection). o ∷ []) (no_window-bare ws h)
 objections-bare classes ws (call.Invalidate h) = ap (λ (o : Objection). o ∷ []) (no_window-bare ws h)

@@ -7,10 +7,11 @@ use Rattle.scene.specs.declared.win.Win.{Win}
 use Rattle.scene.specs.Places.{Place, place_of, window_of, place_at, number_of, AreSingle}
 use Rattle.scene.specs.Clips.{deepest_level}
 use Rattle.scene.specs.Changes.{lies_below, is_below, LiesBelow, Fails, Adds, TakesAway, Reorders}
-use Rattle.scene.specs.Families.{new_window, without_family, on_top_of}
+use Rattle.scene.specs.Families.{new_window, without_family, on_top_of, window_changed}
 use Rattle.scene.specs.Stacks.{IsStack, IsWindow, IsDesktop, has_ancestors}
 use Rattle.scene.proofs.CallerLemmas.{bare, AreFound, all_found}
 use Rattle.messages.specs.Delivery.{rest_of}
+use Rattle.gui_core.specs.Windows.{with_memdev}
 use Rattle.win_tree.proofs.CallerLemmas.{none_given, IsNew, created_adds, without_takes}
 use Rattle.gui_core.proofs.ShapeLemmas.{Keeps, window_of-map, number_of-map, filter-map, without_family-map, on_top_of-map}
 
@@ -65,6 +66,15 @@ places-rest (w ∷ ws) = ap (λ (ps : List Place). place_of w ∷ ps) (places-re
 
 pub places_rest : (ws vs : List Win) → map rest_of vs ≡ map rest_of ws → map place_of vs ≡ map place_of ws
 places_rest ws vs e = sym (places-rest vs) ∙ ap (map place_of) e ∙ places-rest ws
+
+pub places_memdev : (h : ℕ) (memdev : Bool) (ws : List Win) → map place_of (window_changed h (with_memdev memdev) ws) ≡ map place_of ws
+unfolding window_changed
+places_memdev h memdev [] = refl
+places_memdev h memdev (w ∷ ws) =
+    elim (cases_Bool (eqb w.handle h)) [
+      | inl at ↦ rw at (ap (λ (ps : List Place). place_of w ∷ ps) (places_memdev h memdev ws))
+      | inr off ↦ rw off (ap (λ (ps : List Place). place_of w ∷ ps) (places_memdev h memdev ws))
+    ]
 
 pub live_bones : (ws : List Win) (h : ℕ) (w : Win) → window_of ws h ≡ Some w → window_of (map bones ws) h ≡ Some (bones w)
 live_bones ws h w live = window_of-map bones keeps_bones ws h ∙ ap (option_map bones) live

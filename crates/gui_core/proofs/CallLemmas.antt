@@ -1,12 +1,10 @@
 -- What calls come to: one step each, counted.
-use Rattle.std.proofs.Common.{◌≡◌, ℕ, ℤ, ◌+◌, ◌≤◌, Bool, true, false, cond, List, [], ◌∷◌, length, Option, Some, None, Result, Ok, Err, subst, replicate, ◌*◌, refl, sym, ap, ◌∙◌, arith}
+use Rattle.std.proofs.Common.{◌≡◌, ℕ, ℤ, ◌+◌, ◌≤◌, Bool, true, false, cond, List, [], ◌∷◌, length, Option, Some, None, Result, Ok, Err, subst, refl, sym, ap, ◌∙◌, arith}
 use Rattle.std.specs.List.{AllByRecursion}
 use Rattle.std.proofs.lemmas.Bool.Decides.{nat_tests}
 use Rattle.std.proofs.lemmas.Int.{ints}
-use Rattle.std.proofs.lemmas.List.{length-replicate, get_or-replicate}
-use Rattle.std.proofs.lemmas.List.FromFn.{fill_by_all}
 use Rattle.gfx_base.specs.Rects.{is_empty}
-use Rattle.frame.specs.Pictures.{Picture, picture_of}
+use Rattle.frame.specs.Pictures.{picture_of}
 use Rattle.paint_ops.specs.declared.op.Op.{Op}
 use Rattle.paint_ops.specs.declared.op.Op.TheVariants as op
 use Rattle.paint_ops.specs.Kinds.{Class, Assets}
@@ -14,13 +12,12 @@ use Rattle.paint_ops.specs.Soundness.{IsOperation, IsClass, IsSound}
 use Rattle.context.specs.declared.context.Context.{Context}
 use Rattle.context.specs.Contexts.{Owned, first_contexts, owned_by}
 use Rattle.scene.specs.declared.win.Win.{Win}
-use Rattle.strokes.specs.declared.shape.Shape.{Shape}
 use Rattle.calls.specs.declared.config.Config.{Config}
 use Rattle.calls.specs.declared.call.Call.{Call}
 use Rattle.calls.specs.declared.reply.Reply.{Reply}
-use Rattle.calls.specs.declared.reply.Reply.TheVariants.{Done, Handle, Jobs, Refused}
+use Rattle.calls.specs.declared.reply.Reply.TheVariants.{Done, Handle, Jobs, Device, Refused}
 use Rattle.calls.specs.declared.reply.Refusal.{Refusal}
-use Rattle.gui_core.specs.Setups.{Setup, classes_with_desktop, assets_with_desktop, setup_for, screen_of}
+use Rattle.gui_core.specs.Setups.{Setup, classes_with_desktop, assets_with_desktop, setup_for, screen_of, looks_of}
 use Rattle.scene.specs.Looks.{screen_with, looks_of as looks_on}
 use Rattle.scene.specs.Painting.{Looks}
 use Rattle.scene.specs.Stacks.{has_ancestors, IsShallow}
@@ -28,15 +25,15 @@ use Rattle.win_tree.specs.Trees.{Scene}
 use Rattle.gui_core.specs.Scenes.{IsScene}
 use Rattle.gui_core.specs.Windows.{after_change}
 use Rattle.gui_core.specs.Refusals.{Performs, Creates, Alters, Draws, answered}
-use Rattle.gui_core.specs.Changes.{stroke_call}
-use Rattle.gui_core.specs.Drawing.{with_stroke, after_stroke}
+use Rattle.gui_core.specs.Devices.{no_device_pictures}
+use Rattle.gui_core.specs.Drawing.{Work, Surfaces, ink_of, devices_after, surfaces_after, reply_to}
 use Rattle.gui_core.proofs.KeptLemmas.{kept-with, kept-windows}
 use Rattle.gui_core.proofs.SceneLemmas.{scene_after, scene_created}
-use Rattle.gui_core.proofs.EffectLemmas.{IsOnWindows, draws_it, may_be_made, is_new}
-use Rattle.gui_core.proofs.StrokeLemmas.{width-stroke, height-stroke}
+use Rattle.gui_core.proofs.EffectLemmas.{IsOnWindows, IsWork, may_be_made, is_new}
+use Rattle.gui_core.proofs.InkLemmas.{width-ink, height-ink}
 use Rattle.calls.specs.declared.call.Call.TheVariants.{Create}
 use Rattle.scene.specs.Families.{new_window, desktop_with, on_top_of}
-use Rattle.gui_core.specs.States.{State, Step, opening, is_context_call, objections, objections_to, refusal_of, unless_refused, with_windows, effect, effect_of, stroke_objections, context_objections, context_after, step_of_call, step, is_refused}
+use Rattle.gui_core.specs.States.{State, Step, opening, is_context_call, objections, objections_to, refusal_of, unless_refused, with_windows, effect, effect_of, work_objections, context_objections, context_after, step_of_call, step, is_refused}
 use Rattle.gui_core.specs.Machines.{Machine, IsConfig, IsKept, Takes, TakesAlike, Answers, starting}
 
 -- ---- one call
@@ -75,6 +72,7 @@ pub no_refusal : (reply : Reply) → ((refusal : Refusal) → reply ≡ Refused 
 no_refusal Done other = refl
 no_refusal (Handle handle) other = refl
 no_refusal (Jobs count) other = refl
+no_refusal (Device device) other = refl
 no_refusal (Refused refusal) other = absurd (other refusal refl)
 
 -- ---- what callers of the windows learn
@@ -97,19 +95,23 @@ with_contexts m contexts = record m { state = record m.state { contexts = contex
 
 -- the first reason against a task's call on its context
 abbrev pub context_reason : Machine → ℕ → Call → Option Refusal
-context_reason m task call = refusal_of (context_objections (length m.setup.assets.fonts) m.state.windows (owned_by m.state.contexts task) call)
+context_reason m task call = refusal_of (context_objections (length m.setup.assets.fonts) m.state.windows m.state.devices.live (owned_by m.state.contexts task) call)
 
--- the core with another picture
-abbrev pub with_picture : Machine → Picture → Machine
-with_picture m p = record m { state = record m.state { shown = p } }
+-- what the core draws on
+abbrev pub surfaces_of : Machine → Surfaces
+surfaces_of m = record { shown = m.state.shown; devices = m.state.devices }
 
--- the first reason against a stroke with a context
-abbrev pub stroke_reason : Machine → Context → Shape → Option Refusal
-stroke_reason m c s = refusal_of (stroke_objections m.setup.assets m.state.windows c s)
+-- the core with other surfaces
+abbrev pub with_surfaces : Machine → Surfaces → Machine
+with_surfaces m s = record m { state = record m.state { shown = s.shown; devices = s.devices } }
 
--- the picture with that stroke
-abbrev pub picture_after : Machine → Context → Shape → Picture
-picture_after m c s = after_stroke m.setup m.state.windows c s m.state.shown
+-- the first reason against work with a context
+abbrev pub work_reason : Machine → Context → Work → Option Refusal
+work_reason m c work = refusal_of (work_objections m.setup.assets m.state.windows m.state.devices.live c work)
+
+-- the surfaces after it
+abbrev pub surfaces_with : Machine → Context → Work → Surfaces
+surfaces_with m c work = surfaces_after m.setup.assets (looks_of m.setup m.state.windows) m.state.windows c work (surfaces_of m)
 
 -- what a task draws with
 abbrev pub context_of : Machine → ℕ → Context
@@ -161,34 +163,36 @@ context_replied old m task call r new reply is same said p =
     subst (λ (a : Reply). Takes old task call (with_contexts m new) a) (sym said)
     (subst (λ (k : Machine). Takes k task call (with_contexts m new) (answered r)) same (altered m task call r new is p))
 
--- a stroke on the windows that are lent, on a picture of the screen's sides
-pub drawn : (m : Machine) (c : Context) (s : Shape) (lent : List Win) (r : Result (Unit {0}) Refusal) (new : Picture) → IsKept m → lent ≡ m.state.windows → let old = m.state.shown in
-    Draws r (refusal_of (stroke_objections m.setup.assets lent c s)) (with_stroke m.setup.assets (looks_on m.setup.assets (screen_with old.width old.height) lent) lent c s old) old new → Draws r (stroke_reason m c s) (picture_after m c s) old new
-drawn m c s lent r new kept same p =
+-- work on the windows that are lent, on a picture of the screen's sides
+pub drawn : (m : Machine) (c : Context) (work : Work) (lent : List Win) (r : Result (Unit {0}) Refusal) (new : Surfaces) → IsKept m → lent ≡ m.state.windows → let old = surfaces_of m in
+    Draws r (refusal_of (work_objections m.setup.assets lent old.devices.live c work)) (surfaces_after m.setup.assets (looks_on m.setup.assets (screen_with old.shown.width old.shown.height) lent) lent c work old) old new → Draws r (work_reason m c work) (surfaces_with m c work) old new
+drawn m c work lent r new kept same p =
     let setup = m.setup in
     let ws = m.state.windows in
-    let old = m.state.shown in
-    let looks = ap (λ (n : ℕ). looks_on setup.assets (screen_with n old.height) ws) kept.width ∙ ap (λ (n : ℕ). looks_on setup.assets (screen_with setup.config.w n) ws) kept.height in
-    subst (λ (seen : Looks). Draws r (stroke_reason m c s) (with_stroke setup.assets seen ws c s old) old new) looks (rw same at p)
+    let old = surfaces_of m in
+    let looks = ap (λ (n : ℕ). looks_on setup.assets (screen_with n old.shown.height) ws) kept.width ∙ ap (λ (n : ℕ). looks_on setup.assets (screen_with setup.config.w n) ws) kept.height in
+    subst (λ (seen : Looks). Draws r (work_reason m c work) (surfaces_after setup.assets seen ws c work old) old new) looks (rw same at p)
 
--- the same for a stroke
-stroked : (m : Machine) (task : ℕ) (s : Shape) (r : Result (Unit {0}) Refusal) (new : Picture) → Draws r (stroke_reason m (context_of m task) s) (picture_after m (context_of m task) s) m.state.shown new → Takes m task (stroke_call s) (with_picture m new) (answered r)
-stroked m task s (Ok d) new p = let is = draws_it s in done_takes m (with_picture m new) task (stroke_call s) Done (record m.state { shown = new }) (rw (is.0, is.1) p.0) refl (rw (is.0, is.1, p.1) refl)
-stroked m task s (Err refusal) new p =
-    let is = draws_it s in
-    subst (λ (q : Picture). Takes m task (stroke_call s) (with_picture m q) (Refused refusal)) (sym p.1) (refused_takes m task (stroke_call s) refusal (rw (is.0, is.1) p.0))
+worked : (m : Machine) (task : ℕ) (call : Call) (work : Work) (r : Result (Unit {0}) Refusal) (new : Surfaces) → IsWork call work → reply_to m.state.devices work ≡ Done → Draws r (work_reason m (context_of m task) work) (surfaces_with m (context_of m task) work) (surfaces_of m) new → Takes m task call (with_surfaces m new) (answered r)
+worked m task call work (Ok d) new is reply p =
+    done_takes m (with_surfaces m new) task call Done (record m.state { shown = new.shown; devices = new.devices }) (rw (is.0, is.1) p.0) refl (rw (is.0, is.1, p.1, reply) refl)
+worked m task call work (Err refusal) new is reply p =
+    subst (λ (s : Surfaces). Takes m task call (with_surfaces m s) (Refused refusal)) (sym p.1) (refused_takes m task call refusal (rw (is.0, is.1) p.0))
 
-pub stroke_replied : (old m : Machine) (task : ℕ) (c : Context) (s : Shape) (r : Result (Unit {0}) Refusal) (new : Picture) (reply : Reply) → c ≡ context_of m task → m ≡ old → reply ≡ answered r → Draws r (stroke_reason m c s) (picture_after m c s) m.state.shown new → Takes old task (stroke_call s) (with_picture m new) reply
-stroke_replied old m task c s r new reply own same said p =
-    let drawn_with = subst (λ (k : Context). Draws r (stroke_reason m k s) (picture_after m k s) m.state.shown new) own p in
-    subst (λ (a : Reply). Takes old task (stroke_call s) (with_picture m new) a) (sym said)
-    (subst (λ (k : Machine). Takes k task (stroke_call s) (with_picture m new) (answered r)) same (stroked m task s r new drawn_with))
+pub work_replied : (old m : Machine) (task : ℕ) (c : Context) (call : Call) (work : Work) (r : Result (Unit {0}) Refusal) (new : Surfaces) (reply : Reply) → IsWork call work → reply_to m.state.devices work ≡ Done → c ≡ context_of m task → m ≡ old → reply ≡ answered r
+    → Draws r (work_reason m c work) (surfaces_with m c work) (surfaces_of m) new → Takes old task call (with_surfaces m new) reply
+work_replied old m task c call work r new reply is done own same said p =
+    let drawn_with = subst (λ (k : Context). Draws r (work_reason m k work) (surfaces_with m k work) (surfaces_of m) new) own p in
+    subst (λ (a : Reply). Takes old task call (with_surfaces m new) a) (sym said)
+    (subst (λ (k : Machine). Takes k task call (with_surfaces m new) (answered r)) same (worked m task call work r new is done drawn_with))
 
-pub stroke_kept : (m : Machine) (c : Context) (s : Shape) (r : Result (Unit {0}) Refusal) (new : Picture) → IsKept m → Draws r (stroke_reason m c s) (picture_after m c s) m.state.shown new → IsKept (with_picture m new)
-stroke_kept m c s (Ok d) new kept p =
-    subst (λ (q : Picture). IsKept (with_picture m q)) (sym p.1)
-    (kept-with m m.state.windows m.state.handles _ m.state.contexts kept kept.scene kept.handles (width-stroke m.setup m.state.windows c s m.state.shown) (height-stroke m.setup m.state.windows c s m.state.shown))
-stroke_kept m c s (Err refusal) new kept p = subst (λ (q : Picture). IsKept (with_picture m q)) (sym p.1) kept
+pub work_kept : (m : Machine) (c : Context) (work : Work) (r : Result (Unit {0}) Refusal) (new : Surfaces) → IsKept m → (devices_after m.setup.assets c work m.state.devices).handles ≤ m.made → Draws r (work_reason m c work) (surfaces_with m c work) (surfaces_of m) new → IsKept (with_surfaces m new)
+work_kept m c work (Ok d) new kept few p =
+    let looks = looks_of m.setup m.state.windows in
+    let ink = ink_of m.setup.assets m.state.devices c work in
+    subst (λ (s : Surfaces). IsKept (with_surfaces m s)) (sym p.1)
+    (kept-with m m.state.windows m.state.handles _ m.state.contexts _ kept kept.scene kept.handles few (width-ink looks m.state.windows c ink m.state.shown) (height-ink looks m.state.windows c ink m.state.shown))
+work_kept m c work (Err refusal) new kept few p = subst (λ (s : Surfaces). IsKept (with_surfaces m s)) (sym p.1) kept
 
 -- the same for a new window
 pub created_kept : (m : Machine) (parent : ℕ) (x y : ℤ) (w h class : ℕ) (r : Result ℕ Refusal) (new : Scene) → IsKept m → m.state.handles ≤ m.made → Creates r (reason_of m (Create parent x y w h class)) (made_windows m parent x y w h class) (scene_of m) new → IsKept (with_scene m new)
@@ -196,9 +200,9 @@ created_kept m parent x y w h class (Ok handle) new kept few p =
     let made = may_be_made (length m.setup.assets.classes) m.state.windows parent x y w h class p.0 in
     let is = is_new m.setup m.state.windows m.state.handles parent x y w h class kept.scene made in
     subst (λ (s : Scene). IsKept (with_scene m s)) (sym p.2)
-    (kept-with m (made_windows m parent x y w h class) (m.state.handles + 1) m.state.shown m.state.contexts kept
+    (kept-with m (made_windows m parent x y w h class) (m.state.handles + 1) m.state.shown m.state.contexts m.state.devices kept
     (scene_after m.setup (m.state.handles + 1) (m.state.handles + 1) m.state.windows _ (scene_created m.setup m.state.windows m.state.handles (new_window (m.state.handles + 1) parent x y w h class) made.over' kept.scene is refl made.known))
-    (omega arith) refl refl)
+    (omega arith) kept.devices refl refl)
 created_kept m parent x y w h class (Err refusal) new kept few p = subst (λ (s : Scene). IsKept (with_scene m s)) (sym p.1) kept
 
 -- ---- opening
@@ -286,15 +290,11 @@ kept-starting assets config is sound desktop =
       height = refl;
       scene = scene_opening (setup_for assets config) is (omega (arith, count, desktop));
       handles = omega arith;
+      devices = omega arith;
       made = omega arith;
       refused = omega arith;
     }
 
-pub black : (width height : ℕ) (p : Picture) → p.width ≡ width → p.height ≡ height → p.points ≡ replicate (height * width) 0 → p ≡ picture_of width height (λ x y. 0)
-black width height p is_width is_height is_black =
-    let points = fill_by_all {X = ℕ} (λ (i : ℕ). 0) (replicate (height * width) 0) (height * width) 0 (length-replicate (height * width) 0) (λ k lt. get_or-replicate (height * width) k 0 0 lt) in
-    rw (is_width, is_height, is_black, points) refl
-
-pub started : (given kept : Assets) (config : Config) (p : Picture) (windows : Scene) (contexts : List Owned) → kept ≡ assets_with_desktop config.desktop given → p ≡ picture_of config.w config.h (λ x y. 0) → windows ≡ record { windows = desktop_with config.w config.h (screen_with config.w config.h) ∷ []; handles = 1 } → contexts ≡ first_contexts
-    → ◌≡◌ {A = Machine} (record { setup = record { config = config; assets = kept }; state = record { windows = windows.windows; handles = windows.handles; shown = p; contexts = contexts }; made = 0; refused = 0 }) (starting given config)
-started given kept config p windows contexts assets picture is first = rw (assets, picture, is, first) refl
+pub started : (given kept : Assets) (config : Config) (surfaces : Surfaces) (windows : Scene) (contexts : List Owned) → kept ≡ assets_with_desktop config.desktop given → surfaces ≡ record { shown = picture_of config.w config.h (λ x y. 0); devices = no_device_pictures } → windows ≡ record { windows = desktop_with config.w config.h (screen_with config.w config.h) ∷ []; handles = 1 } → contexts ≡ first_contexts
+    → ◌≡◌ {A = Machine} (record { setup = record { config = config; assets = kept }; state = record { windows = windows.windows; handles = windows.handles; shown = surfaces.shown; contexts = contexts; devices = surfaces.devices }; made = 0; refused = 0 }) (starting given config)
+started given kept config surfaces windows contexts assets drawn_on is first = rw (assets, drawn_on, is, first) refl

@@ -4,7 +4,6 @@ use Rattle.std.specs.List.{list_any, AllByRecursion}
 use Rattle.std.proofs.lemmas.Bool.{cases_Bool}
 use Rattle.context.specs.Contexts.{Owned, owned_by}
 use Rattle.context.proofs.CallerLemmas.{owned_by-with_owned_other}
-use Rattle.strokes.specs.declared.shape.Shape.{Shape}
 use Rattle.calls.specs.declared.call.Call.{Call}
 use Rattle.calls.specs.declared.call.Call.TheVariants.{Exec, Exec1}
 use Rattle.calls.specs.declared.entry.Entry.{Entry}
@@ -14,7 +13,7 @@ use Rattle.invalidate.specs.Invalidation.{is_invalid}
 use Rattle.gui_core.specs.Setups.{Setup}
 use Rattle.gui_core.specs.Jobs.{jobs_of}
 use Rattle.gui_core.specs.States.{State, Step, is_context_call, objections_to, refusal_of, unless_refused, after_job, after_jobs, effect, other_effect, effect_of, context_after, step, state_after}
-use Rattle.gui_core.specs.Drawing.{shape_of}
+use Rattle.gui_core.specs.Drawing.{Work, work_of}
 use Rattle.gui_core.specs.Promises.{changes_contexts, IsByAnother}
 
 jobs_leave : (setup : Setup) (n : ℕ) (s : State) → (after_jobs setup n s).contexts ≡ s.contexts
@@ -26,9 +25,9 @@ effect_leaves setup s Exec = jobs_leave setup (jobs_of s.windows) s
 effect_leaves setup s Exec1 = jobs_leave setup (cond (list_any is_invalid s.windows) 1 0) s
 effect_leaves setup s call = refl
 
-other_leaves : (setup : Setup) (s : State) (actor : ℕ) (o : Option Shape) (call : Call) → (other_effect setup s actor o call).state.contexts ≡ s.contexts
+other_leaves : (setup : Setup) (s : State) (actor : ℕ) (o : Option Work) (call : Call) → (other_effect setup s actor o call).state.contexts ≡ s.contexts
 other_leaves setup s actor None call = effect_leaves setup s call
-other_leaves setup s actor (Some shape) call = refl
+other_leaves setup s actor (Some work) call = refl
 
 unless_leaves : (o : Option Refusal) (s : State) (done : Step) → done.state.contexts ≡ s.contexts → (unless_refused o s done).state.contexts ≡ s.contexts
 unless_leaves None s done same = same
@@ -37,7 +36,7 @@ unless_leaves (Some refusal) s done same = refl
 pub other_calls : (setup : Setup) (s : State) (e : Entry) → changes_contexts e ≡ false → (step setup s e).state.contexts ≡ s.contexts
 unfolding step
 other_calls setup s (entry.Call actor call) other =
-    unless_leaves (refusal_of (objections_to setup s actor call)) s (effect_of setup s actor call) (rw other (other_leaves setup s actor (shape_of call) call))
+    unless_leaves (refusal_of (objections_to setup s actor call)) s (effect_of setup s actor call) (rw other (other_leaves setup s actor (work_of call) call))
 
 unless_leaves_of : (o : Option Refusal) (s : State) (done : Step) (task : ℕ) → owned_by done.state.contexts task ≡ owned_by s.contexts task → owned_by (unless_refused o s done).state.contexts task ≡ owned_by s.contexts task
 unless_leaves_of None s done task same = same
@@ -47,7 +46,7 @@ effect_leaves_of : (setup : Setup) (s : State) (actor task : ℕ) (call : Call) 
 effect_leaves_of setup s actor task call some another =
     elim (cases_Bool (is_context_call call)) [
       | inl on ↦ rw on (owned_by-with_owned_other s.contexts actor task (context_after (owned_by s.contexts actor) call) another.0 some another.1)
-      | inr other ↦ rw other (ap (λ (all : List Owned). owned_by all task) (other_leaves setup s actor (shape_of call) call))
+      | inr other ↦ rw other (ap (λ (all : List Owned). owned_by all task) (other_leaves setup s actor (work_of call) call))
     ]
 
 pub others_stay : (setup : Setup) (s : State) (e : Entry) (task : ℕ) → 1 ≤ task → IsByAnother task e → owned_by (step setup s e).state.contexts task ≡ owned_by s.contexts task

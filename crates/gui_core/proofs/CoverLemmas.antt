@@ -18,11 +18,11 @@ use Rattle.scene.specs.Stacks.{IsStack, AreGiven}
 use Rattle.scene.proofs.CallerLemmas.{bare, places-same, place_at-same, AreFound, DamageCovers-same, below-away, AreasCover-away, AreasCover-adds, AreasCover-takes, AreasCover-changes}
 use Rattle.win_tree.proofs.CallerLemmas.{placed, IsNew, created_valid, without_valid, raised_valid, lowered_valid, raised_found, lowered_found, created_given, without_given, raised_given, lowered_given, raised_reorders, lowered_reorders}
 use Rattle.gui_core.specs.Setups.{Setup, screen_of, looks_of}
-use Rattle.gui_core.specs.Windows.{is_as_it_was, are_as_they_were, clip_at, listed, after_change}
+use Rattle.gui_core.specs.Windows.{with_memdev, is_as_it_was, are_as_they_were, clip_at, listed, after_change}
 use Rattle.gui_core.proofs.SceneLemmas.{other_found}
 use Rattle.gui_core.proofs.ShapeLemmas.{without_family-map, on_top_of-map, raised-map, lowered-map, changed-map}
 use Rattle.messages.specs.Delivery.{rest_of}
-use Rattle.gui_core.proofs.BoneLemmas.{bones_rest, places_rest, bones, keeps_bones, bones-same, live_bones, all_live, Commutes, reorders, reorders_found, takes, adds}
+use Rattle.gui_core.proofs.BoneLemmas.{bones_rest, places_rest, places_memdev, bones, keeps_bones, bones-same, live_bones, all_live, Commutes, reorders, reorders_found, takes, adds}
 
 -- ---- the shape of the tree
 
@@ -54,6 +54,17 @@ shaped_rest setup ws vs handles e s =
       stack = subst IsStack (sym same) s.stack;
       given = subst (AreGiven handles) (sym same) s.given;
       desktop = ap (λ (found : ℕ → Option Place). found 1) (place_at-same vs ws (places_rest ws vs e)) ∙ s.desktop;
+    }
+
+-- the same where a window is composed aside, or no longer
+pub shaped_memdev : (setup : Setup) (ws : List Win) (handles h : ℕ) (memdev : Bool) → IsShaped setup ws handles → IsShaped setup (window_changed h (with_memdev memdev) ws) handles
+shaped_memdev setup ws handles h memdev s =
+    let vs = window_changed h (with_memdev memdev) ws in
+    let same = changed-map bones (with_memdev memdev) h ws (λ w. refl) in
+    record {
+      stack = subst IsStack (sym same) s.stack;
+      given = subst (AreGiven handles) (sym same) s.given;
+      desktop = ap (λ (found : ℕ → Option Place). found 1) (place_at-same vs ws (places_memdev h memdev ws)) ∙ s.desktop;
     }
 
 -- What a call on the window that has the handle leads to: windows of a tree, and where they aren't as they were, both clips of the window cover the change.

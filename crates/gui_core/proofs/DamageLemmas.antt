@@ -2,6 +2,7 @@
 use Rattle.std.proofs.Common.{◌≡◌, ◌≢◌, ℕ, ℤ, pos, zero, suc, ◌+◌, ◌+ℤ◌, ◌-ℤ◌, ◌<◌, Bool, true, false, cond, eqb, List, [], ◌∷◌, length, map, Option, Some, None, refl, sym, ap, subst, ◌∙◌, inl, inr, arith}
 use Rattle.std.specs.Prelude.{is_some, position}
 use Rattle.std.specs.List.{list_any, AllByRecursion, AllZip}
+use Rattle.std.specs.Option.{option_map_or}
 use Rattle.std.proofs.lemmas.Bool.{cases_Bool, or_parts, or_from, and_right, and_from, false≢true}
 use Rattle.std.proofs.lemmas.Int.{ints}
 use Rattle.std.proofs.lemmas.List.{length-map}
@@ -20,9 +21,8 @@ use Rattle.scene.specs.Changes.{DamageCovers, clips_have, ChangesAlone}
 use Rattle.scene.specs.Families.{new_window, desktop_with, on_top_of, moved_to, resized_to, with_shown, window_changed}
 use Rattle.scene.proofs.CallerLemmas.{bare, bare-area, AreasCover-areas, DamageCovers-alone, clips_have-found}
 use Rattle.win_tree.proofs.CallerLemmas.{IsNew}
-use Rattle.strokes.specs.declared.shape.Shape.{Shape}
 use Rattle.calls.specs.declared.call.Call.{Call}
-use Rattle.calls.specs.declared.call.Call.TheVariants.{Create, Delete, MoveTo, MoveBy, Resize, Show, Hide, ToTop, ToBottom, SetClass, Invalidate, InvalidateRect, InvalidateArea, Exec, Exec1, Scan, SetTrans, SetValue, Send, Fill, Frame, Line, Bitmap, Text}
+use Rattle.calls.specs.declared.call.Call.TheVariants.{Create, Delete, MoveTo, MoveBy, Resize, Show, Hide, ToTop, ToBottom, SetClass, Invalidate, InvalidateRect, InvalidateArea, Exec, Exec1, Scan, SetTrans, SetMemdev, SetValue, Send, Fill, Frame, Line, Bitmap, Text, DevCreate, DevDelete, DevCopy}
 use Rattle.calls.specs.declared.entry.Entry.{Entry}
 use Rattle.calls.specs.declared.entry.Entry.TheVariants as entry
 use Rattle.calls.specs.declared.reply.Refusal.{Refusal}
@@ -31,12 +31,12 @@ use Rattle.frame.proofs.CallerLemmas.{colour_at-picture_of}
 use Rattle.gui_core.specs.declared.change.Change.{Change}
 use Rattle.gui_core.specs.declared.change.Change.TheVariants as change
 use Rattle.gui_core.specs.Setups.{Setup, screen_of, looks_of, painter}
-use Rattle.gui_core.specs.Windows.{moved_by, with_class, after_change, with_invalid_window, with_invalid_rect, with_invalid_area, with_trans, with_value, with_message}
+use Rattle.gui_core.specs.Windows.{moved_by, with_class, after_change, with_invalid_window, with_invalid_rect, with_invalid_area, with_trans, with_memdev, with_value, with_message}
 use Rattle.gui_core.specs.Changes.{list_after}
 use Rattle.invalidate.specs.Invalidation.{is_invalid, on_screen}
 use Rattle.gui_core.specs.Jobs.{jobs_of}
-use Rattle.gui_core.specs.States.{State, Step, latest, opening, is_context_call, objections, objections_to, bad_size, no_class, refusal_of, unless_refused, changed, created, after_job, after_jobs, rect_with, effect, effect_of, context_after, with_own, stroke_done, other_objections, other_effect, step, state_after}
-use Rattle.gui_core.specs.Drawing.{shape_of, stroke_puts}
+use Rattle.gui_core.specs.States.{State, Step, latest, opening, is_context_call, objections, objections_to, bad_size, no_class, refusal_of, unless_refused, changed, created, after_job, after_jobs, rect_with, effect, effect_of, context_after, with_own, work_done, other_objections, other_effect, step, state_after}
+use Rattle.gui_core.specs.Drawing.{Work, Draw, Copy, Make, Discard, work_of, ink_of, ink_puts, may_ink}
 use Rattle.gui_core.specs.Stains.{Stain, no_stain, without_patch, stain_after_jobs, left_stained, with_points, stain_after_call, stained, stain_after, draws}
 use Rattle.gui_core.specs.Promises.{IsRightOutside, IsPainterOutside, NoneInvalid}
 use Rattle.gui_core.proofs.JobLemmas.{none_invalid, no_jobs}
@@ -49,9 +49,10 @@ use Rattle.messages.specs.Delivery.{rest_of}
 use Rattle.gui_core.proofs.MessageLemmas.{rest_value, rest_message, value_covers, message_covers}
 use Rattle.gui_core.proofs.BareLemmas.{bare_after_change, bare_window, bare_rect}
 use Rattle.gui_core.proofs.BoneLemmas.{stack_alone, bones, keeps_bones, bones_window, live_bones}
-use Rattle.gui_core.proofs.CoverLemmas.{desk, IsShaped, shaped_same, shaped_rest, Leads, change_covers, leads_raised, leads_lowered, leads_without, leads_created, leads_changed}
+use Rattle.gui_core.proofs.CoverLemmas.{desk, IsShaped, shaped_same, shaped_rest, shaped_memdev, Leads, change_covers, leads_raised, leads_lowered, leads_without, leads_created, leads_changed}
 use Rattle.gui_core.proofs.PictureLemmas.{picture_of-same, IsPictured, pictured_some, job_covers}
-use Rattle.gui_core.proofs.StrokeLemmas.{pictured_stroke, stays_beside}
+use Rattle.gui_core.proofs.MemdevLemmas.{memdev_covers}
+use Rattle.gui_core.proofs.InkLemmas.{pictured_ink, stays_beside}
 
 -- ---- the desktop
 
@@ -100,7 +101,7 @@ opening_covers setup x y x_in y_in outside clean =
 abbrev Covers : Setup → List Win → List Win → Type 0
 Covers setup ws vs = (x y : ℕ) → x < setup.config.w → y < setup.config.h → DamageCovers (looks_of setup ws) ws (looks_of setup vs) vs (point_at (pos x) (pos y))
 
-right_after : (setup : Setup) (s : State) (stain : Stain) (vs : List Win) (handles : ℕ) → IsRightOutside setup s stain → Covers setup s.windows vs → IsRightOutside setup (record { windows = vs; handles = handles; shown = s.shown; contexts = s.contexts }) stain
+right_after : (setup : Setup) (s : State) (stain : Stain) (vs : List Win) (handles : ℕ) → IsRightOutside setup s stain → Covers setup s.windows vs → IsRightOutside setup (record { windows = vs; handles = handles; shown = s.shown; contexts = s.contexts; devices = s.devices }) stain
 right_after setup s stain vs handles right covers x y x_in y_in outside clean =
     let d = covers x y x_in y_in in
     right x y x_in y_in (d.stays outside) clean ∙ sym (d.covers outside)
@@ -194,8 +195,19 @@ valued_holds setup s stain vs same covers is = record {
   shown = is.shown;
 }
 
+-- a window that is composed aside, or no longer
+memdev_holds : (setup : Setup) (s : State) (stain : Stain) (h : ℕ) (memdev : Bool) → Holds setup s stain → Holds setup (record s { windows = window_changed h (with_memdev memdev) s.windows }) stain
+memdev_holds setup s stain h memdev is =
+    let ws = s.windows in
+    let vs = window_changed h (with_memdev memdev) ws in
+    record {
+      shaped = shaped_memdev setup ws s.handles h memdev is.shaped;
+      covers = right_after setup s stain vs s.handles is.covers (λ x y x_in y_in. memdev_covers setup.assets (screen_of setup) ws h memdev (point_at (pos x) (pos y)));
+      shown = is.shown;
+    }
+
 -- a call that leads to a list
-led_holds : (setup : Setup) (s : State) (stain : Stain) (now : List Win) (handles h : ℕ) → Leads setup s.windows now handles h → Holds setup s stain → Holds setup (record { windows = after_change (screen_of setup) h s.windows now; handles = handles; shown = s.shown; contexts = s.contexts }) stain
+led_holds : (setup : Setup) (s : State) (stain : Stain) (now : List Win) (handles h : ℕ) → Leads setup s.windows now handles h → Holds setup s stain → Holds setup (record { windows = after_change (screen_of setup) h s.windows now; handles = handles; shown = s.shown; contexts = s.contexts; devices = s.devices }) stain
 led_holds setup s stain now handles h leads is = record {
   shaped = shaped_same setup now _ handles (bare_after_change (screen_of setup) h s.windows now) leads.shaped;
   covers = right_after setup s stain _ handles is.covers (λ x y x_in y_in. change_covers setup s.windows now handles h (point_at (pos x) (pos y)) leads (inside setup now handles x y leads.shaped x_in y_in));
@@ -232,6 +244,7 @@ effect_holds setup s stain (ToTop h) e is = changed_holds setup s stain h change
 effect_holds setup s stain (ToBottom h) e is = changed_holds setup s stain h change.ToBottom (may_change s.windows h [] e).0 is
 effect_holds setup s stain (SetClass h class) e is = changed_holds setup s stain h (change.SetClass class) (may_change s.windows h (no_class (length setup.assets.classes) class ∷ []) e).0 is
 effect_holds setup s stain (SetTrans h trans) e is = changed_holds setup s stain h (change.SetTrans trans) (may_change s.windows h [] e).0 is
+effect_holds setup s stain (SetMemdev h memdev) e is = memdev_holds setup s stain h memdev is
 effect_holds setup s stain (SetValue h index value) e is =
     valued_holds setup s stain (with_value (screen_of setup) h index value s.windows) (rest_value (screen_of setup) h index value s.windows) (λ x y x_in y_in. value_covers setup.assets (screen_of setup) h index value s.windows (point_at (pos x) (pos y))) is
 effect_holds setup s stain (Send h message argument) e is =
@@ -255,19 +268,21 @@ effect_holds setup s stain call e is = is
 owning_holds : (setup : Setup) (s : State) (stain : Stain) (task : ℕ) (own : Owned) → Holds setup s stain → Holds setup (with_own s task own).state stain
 owning_holds setup s stain task own is = record { shaped = is.shaped; covers = is.covers; shown = is.shown }
 
--- a stroke leaves the windows, and the picture outside its points
-stroke_holds : (setup : Setup) (s : State) (stain : Stain) (task : ℕ) (shape : Shape) → Holds setup s stain → Holds setup (stroke_done setup s (owned_by s.contexts task).context shape).state (with_points setup s task (Some shape) stain)
-stroke_holds setup s stain task shape is =
+-- work leaves the windows, and the picture outside its points
+work_holds : (setup : Setup) (s : State) (stain : Stain) (task : ℕ) (work : Work) → Holds setup s stain → Holds setup (work_done setup s (owned_by s.contexts task).context work).state (with_points setup s task (Some work) stain)
+work_holds setup s stain task work is =
     let c = (owned_by s.contexts task).context in
+    let looks = looks_of setup s.windows in
+    let ink = ink_of setup.assets s.devices c work in
     record {
       shaped = is.shaped;
       covers = λ x y x_in y_in outside clean.
           let p : Point = point_at (pos x) (pos y) in
-          let both = or_parts (stain p) (stroke_puts setup s.windows c shape p) clean in
+          let both = or_parts (stain p) (ink_puts looks s.windows c ink p) clean in
           let wide : x < s.shown.width = rw (ap (λ (q : Picture). q.width) is.shown.is) x_in in
           let high : y < s.shown.height = rw (ap (λ (q : Picture). q.height) is.shown.is) y_in in
-          stays_beside setup s.windows c shape s.shown x y wide high both.1 ∙ is.covers x y x_in y_in outside both.0;
-      shown = pictured_stroke setup s.windows c shape s.shown is.shown;
+          stays_beside looks s.windows c ink s.shown x y wide high both.1 ∙ is.covers x y x_in y_in outside both.0;
+      shown = pictured_ink setup.config.w setup.config.h looks s.windows c ink s.shown is.shown;
     }
 
 -- calls on contexts paint nothing and draw nothing
@@ -279,19 +294,22 @@ context_stains_nothing setup s task (Frame x0 y0 x1 y1) stain on = absurd cc
 context_stains_nothing setup s task (Line x0 y0 x1 y1) stain on = absurd cc
 context_stains_nothing setup s task (Bitmap bitmap x y) stain on = absurd cc
 context_stains_nothing setup s task (Text x y string) stain on = absurd cc
+context_stains_nothing setup s task (DevCreate w h) stain on = absurd cc
+context_stains_nothing setup s task (DevDelete device) stain on = absurd cc
+context_stains_nothing setup s task (DevCopy device x y) stain on = absurd cc
 context_stains_nothing setup s task call stain on = refl
 
--- strokes paint no patch
-stroke_leaves_stain : (setup : Setup) (s : State) (call : Call) (shape : Shape) (stain : Stain) → shape_of call ≡ Some shape → left_stained setup s call stain ≡ stain
-stroke_leaves_stain setup s Exec shape stain is = absurd cc
-stroke_leaves_stain setup s Exec1 shape stain is = absurd cc
-stroke_leaves_stain setup s call shape stain is = refl
+-- work paints no patch
+work_leaves_stain : (setup : Setup) (s : State) (call : Call) (work : Work) (stain : Stain) → work_of call ≡ Some work → left_stained setup s call stain ≡ stain
+work_leaves_stain setup s Exec work stain is = absurd cc
+work_leaves_stain setup s Exec1 work stain is = absurd cc
+work_leaves_stain setup s call work stain is = refl
 
-other_holds : (setup : Setup) (s : State) (stain : Stain) (actor : ℕ) (call : Call) (o : Option Shape) → shape_of call ≡ o → refusal_of (other_objections setup s actor o call) ≡ None → Holds setup s stain → Holds setup (other_effect setup s actor o call).state (with_points setup s actor o (left_stained setup s call stain))
+other_holds : (setup : Setup) (s : State) (stain : Stain) (actor : ℕ) (call : Call) (o : Option Work) → work_of call ≡ o → refusal_of (other_objections setup s actor o call) ≡ None → Holds setup s stain → Holds setup (other_effect setup s actor o call).state (with_points setup s actor o (left_stained setup s call stain))
 other_holds setup s stain actor call None is fine holds = effect_holds setup s stain call fine holds
-other_holds setup s stain actor call (Some shape) is fine holds =
-    subst (λ (left : Stain). Holds setup (stroke_done setup s (owned_by s.contexts actor).context shape).state (with_points setup s actor (Some shape) left)) (sym (stroke_leaves_stain setup s call shape stain is))
-    (stroke_holds setup s stain actor shape holds)
+other_holds setup s stain actor call (Some work) is fine holds =
+    subst (λ (left : Stain). Holds setup (work_done setup s (owned_by s.contexts actor).context work).state (with_points setup s actor (Some work) left)) (sym (work_leaves_stain setup s call work stain is))
+    (work_holds setup s stain actor work holds)
 
 any_effect_holds : (setup : Setup) (s : State) (stain : Stain) (actor : ℕ) (call : Call) → refusal_of (objections_to setup s actor call) ≡ None → Holds setup s stain → Holds setup (effect_of setup s actor call).state (stain_after_call setup s actor call stain)
 any_effect_holds setup s stain actor call fine is =
@@ -299,7 +317,7 @@ any_effect_holds setup s stain actor call fine is =
       | inl on ↦
           subst (λ (after : Stain). Holds setup (effect_of setup s actor call).state after) (sym (context_stains_nothing setup s actor call stain on))
           (rw on (owning_holds setup s stain actor (context_after (owned_by s.contexts actor) call) is))
-      | inr other ↦ rw other (other_holds setup s stain actor call (shape_of call) refl (rw other at fine) is)
+      | inr other ↦ rw other (other_holds setup s stain actor call (work_of call) refl (rw other at fine) is)
     ]
 
 unless_refused_holds : (setup : Setup) (s : State) (stain after : Stain) (done : Step) (o : Option Refusal) → Holds setup s stain → (o ≡ None → Holds setup done.state after) → Holds setup (unless_refused o s done).state (cond (is_some o) stain after)
@@ -339,14 +357,17 @@ unless_clean : (refused : Bool) (stain after : Stain) (p : Point) → stain p �
 unless_clean true stain after p clean is_after = clean
 unless_clean false stain after p clean is_after = is_after
 
-points_clean : (setup : Setup) (s : State) (task : ℕ) (o : Option Shape) (stain : Stain) (p : Point) → is_some o ≡ false → stain p ≡ false → with_points setup s task o stain p ≡ false
+points_clean : (setup : Setup) (s : State) (task : ℕ) (o : Option Work) (stain : Stain) (p : Point) → option_map_or may_ink o false ≡ false → stain p ≡ false → with_points setup s task o stain p ≡ false
 points_clean setup s task None stain p none clean = clean
-points_clean setup s task (Some shape) stain p none clean = absurd cc
+points_clean setup s task (Some (Draw shape)) stain p none clean = absurd cc
+points_clean setup s task (Some (Copy device x y)) stain p none clean = absurd cc
+points_clean setup s task (Some (Make w h)) stain p none clean = rw clean refl
+points_clean setup s task (Some (Discard device)) stain p none clean = rw clean refl
 
 pub stays_clean : (setup : Setup) (s : State) (e : Entry) (stain : Stain) (p : Point) → draws e ≡ false → stain p ≡ false → stained setup s e stain p ≡ false
 stays_clean setup s (entry.Call actor call) stain p none clean =
     unless_clean (is_some (refusal_of (objections_to setup s actor call))) stain (stain_after_call setup s actor call stain) p clean
-    (points_clean setup s actor (shape_of call) (left_stained setup s call stain) p none (left_clean setup s call stain p clean))
+    (points_clean setup s actor (work_of call) (left_stained setup s call stain) p none (left_clean setup s call stain p clean))
 
 all_clean : (setup : Setup) (s : State) (es : List Entry) (stain : Stain) (p : Point) → list_any draws es ≡ false → stain p ≡ false → stain_after setup s es stain p ≡ false
 all_clean setup s [] stain p none clean = clean

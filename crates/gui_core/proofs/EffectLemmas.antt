@@ -30,7 +30,7 @@ use Rattle.gui_core.specs.Setups.{Setup, screen_of}
 use Rattle.gui_core.specs.Windows.{after_change, with_class, with_invalid_window, with_invalid_rect, with_trans}
 use Rattle.gui_core.specs.Scenes.{HasClass, IsScene}
 use Rattle.gui_core.specs.Changes.{call_for, list_after, context_call, stroke_call}
-use Rattle.gui_core.specs.Drawing.{shape_of}
+use Rattle.gui_core.specs.Drawing.{Work, Draw, work_of}
 use Rattle.gui_core.specs.States.{State, Step, is_context_call, with_windows, effect, Objection, objections, no_window, too_deep, bad_size, no_class, refusal_of}
 use Rattle.gui_core.proofs.IgnoreLemmas.{bare_invalidated}
 use Rattle.gui_core.proofs.SceneLemmas.{found_has, found_handle, MayStand, scene_changed, scene_marked, scene_raised, scene_lowered, scene_without}
@@ -227,9 +227,9 @@ scene_invalid_rect setup ws handles h local s = scene_invalid setup ws handles h
 
 -- ---- what a change does
 
--- the call is neither on a context nor of a shape
+-- the call is neither on a context nor work
 abbrev pub IsOnWindows : Call → Type 0
-IsOnWindows call = (is_context_call call ≡ false) × (shape_of call ≡ None)
+IsOnWindows call = (is_context_call call ≡ false) × (work_of call ≡ None)
 
 pub on_windows : (h : ℕ) (change : Change) → IsOnWindows (call_for h change)
 on_windows h Delete = (refl, refl)
@@ -245,6 +245,7 @@ on_windows h (SetTrans trans) = (refl, refl)
 
 pub on_a_context : (change : ContextChange) → is_context_call (context_call change) ≡ true
 on_a_context (context_change.Select h) = refl
+on_a_context (context_change.Device device) = refl
 on_a_context (context_change.Colour c) = refl
 on_a_context (context_change.BkColour c) = refl
 on_a_context (context_change.TextMode trans) = refl
@@ -252,7 +253,11 @@ on_a_context (context_change.Font font) = refl
 on_a_context context_change.Save = refl
 on_a_context context_change.Restore = refl
 
-pub draws_it : (s : Shape) → (is_context_call (stroke_call s) ≡ false) × (shape_of (stroke_call s) ≡ Some s)
+-- the call asks for work
+abbrev pub IsWork : Call → Work → Type 0
+IsWork call work = (is_context_call call ≡ false) × (work_of call ≡ Some work)
+
+pub draws_it : (s : Shape) → IsWork (stroke_call s) (Draw s)
 draws_it (shape.Fill x0 y0 x1 y1) = (refl, refl)
 draws_it (shape.Frame x0 y0 x1 y1) = (refl, refl)
 draws_it (shape.Line x0 y0 x1 y1) = (refl, refl)

@@ -6,6 +6,7 @@ use Rattle.std.proofs.lemmas.List.{append-nil, take_all, drop_all}
 use Rattle.std.proofs.lemmas.List.Sums.{count_by-le-length}
 use Rattle.frame.specs.Pictures.{Picture}
 use Rattle.context.specs.Contexts.{Owned}
+use Rattle.gui_core.specs.Devices.{DevicePictures}
 use Rattle.scene.specs.declared.win.Win.{Win}
 use Rattle.scene.proofs.CallerLemmas.{length-same}
 use Rattle.gui_core.specs.Setups.{Setup}
@@ -20,10 +21,10 @@ use Rattle.gui_core.proofs.SceneLemmas.{scene_job}
 
 -- ---- a job
 
--- the core with other windows, which are those of a tree too, with another picture of the same sides, and with any contexts
-pub kept-with : (m : Machine) (ws : List Win) (handles : ℕ) (p : Picture) (contexts : List Owned) → IsKept m → IsScene m.setup ws handles → handles ≤ m.made + 1 → p.width ≡ m.state.shown.width → p.height ≡ m.state.shown.height
-    → IsKept (record m { state = record { windows = ws; handles = handles; shown = p; contexts = contexts } })
-kept-with m ws handles p contexts kept scene few wide high = record {
+-- the core with other windows, which are those of a tree too, with another picture of the same sides, with any contexts, and with other devices
+pub kept-with : (m : Machine) (ws : List Win) (handles : ℕ) (p : Picture) (contexts : List Owned) (ds : DevicePictures) → IsKept m → IsScene m.setup ws handles → handles ≤ m.made + 1 → ds.handles ≤ m.made → p.width ≡ m.state.shown.width → p.height ≡ m.state.shown.height
+    → IsKept (record m { state = record { windows = ws; handles = handles; shown = p; contexts = contexts; devices = ds } })
+kept-with m ws handles p contexts ds kept scene few few_devices wide high = record {
   config = kept.config;
   assets = kept.assets;
   has_desktop = kept.has_desktop;
@@ -31,15 +32,16 @@ kept-with m ws handles p contexts kept scene few wide high = record {
   height = high ∙ kept.height;
   scene = scene;
   handles = few;
+  devices = few_devices;
   made = kept.made;
   refused = kept.refused;
 }
 
 pub kept-windows : (m : Machine) (ws : List Win) → IsKept m → IsScene m.setup ws m.state.handles → IsKept (record m { state = record m.state { windows = ws } })
-kept-windows m ws kept scene = kept-with m ws m.state.handles m.state.shown m.state.contexts kept scene kept.handles refl refl
+kept-windows m ws kept scene = kept-with m ws m.state.handles m.state.shown m.state.contexts m.state.devices kept scene kept.handles kept.devices refl refl
 
 pub kept-job : (m : Machine) → IsKept m → IsKept (record m { state = after_job m.setup m.state })
-kept-job m kept = kept-with m (windows_after_job m.state.windows) m.state.handles _ m.state.contexts kept (scene_job m.setup m.state.windows m.state.handles kept.scene) kept.handles (width-job m.setup m.state.windows m.state.shown) (height-job m.setup m.state.windows m.state.shown)
+kept-job m kept = kept-with m (windows_after_job m.state.windows) m.state.handles _ m.state.contexts m.state.devices kept (scene_job m.setup m.state.windows m.state.handles kept.scene) kept.handles kept.devices (width-job m.setup m.state.windows m.state.shown) (height-job m.setup m.state.windows m.state.shown)
 
 pub kept-counted : (m : Machine) (made refused : ℕ) → IsKept m → m.made ≤ made → made ≤ m.setup.config.calls → refused ≤ made → IsKept (record m { made = made; refused = refused })
 kept-counted m made refused kept more few fewer = record {
@@ -50,6 +52,7 @@ kept-counted m made refused kept more few fewer = record {
   height = kept.height;
   scene = kept.scene;
   handles = let handles = kept.handles in omega arith;
+  devices = let devices = kept.devices in omega arith;
   made = few;
   refused = fewer;
 }

@@ -14,9 +14,13 @@ mod MessageLemmas
 mod BoneLemmas
 mod CoverLemmas
 mod PictureLemmas
-mod StrokeLemmas
+mod InkLemmas
+mod DeviceLemmas
+mod SurfaceLemmas
+mod MemdevLemmas
 mod DamageLemmas
 mod SceneryLemmas
+mod WantLemmas
 mod CallLemmas
 mod ContextLemmas
 pub mod CallerLemmas

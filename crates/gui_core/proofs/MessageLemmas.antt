@@ -103,7 +103,7 @@ message_covers assets screen h message argument ws p =
 
 -- ---- whatever is invalid
 
-changed_both : (f change other : Win → Win) (k : Keeps f) (h : ℕ) (ws : List Win) → ((w : Win) → f (change w) ≡ other (f w)) → map f (window_changed h change ws) ≡ window_changed h other (map f ws)
+pub changed_both : (f change other : Win → Win) (k : Keeps f) (h : ℕ) (ws : List Win) → ((w : Win) → f (change w) ≡ other (f w)) → map f (window_changed h change ws) ≡ window_changed h other (map f ws)
 unfolding window_changed
 changed_both f change other k h [] same = refl
 changed_both f change other k h (w ∷ ws) same =

@@ -1,5 +1,6 @@
--- One window that is made invalid, or valid, at its place in the list and in the tree.
-use Rattle.std.proofs.Common.{◌≡◌, ℕ, ◌<◌, List, length, map, get_or, set, Option, Some, None, get_or-set_same, refl, sym, ap, subst, ◌∙◌}
+-- One window that is made invalid, or valid, or composed aside, at its place in the list and in the tree.
+use Rattle.std.proofs.Common.{◌≡◌, ℕ, ◌<◌, ◌≤◌, Bool, List, [], ◌∷◌, length, get_or, set, eqb, Option, Some, None, get_or-set_same, refl, sym, ap, subst, ◌∙◌, inl, inr}
+use Rattle.std.proofs.lemmas.Bool.{cases_Bool}
 use Rattle.std.proofs.lemmas.Option.{slice_get-get_or}
 use Rattle.gfx_base.specs.declared.rect.Rect.{Rect}
 use Rattle.scene.specs.declared.win.Win.{Win}
@@ -11,14 +12,15 @@ use Rattle.scene.proofs.CallerLemmas.{bare, all_found, desktops, changed_valid, 
 use Rattle.win_tree.specs.Trees.{Scene, MayReplace, IsReplacement}
 use Rattle.invalidate.proofs.CallerLemmas.{may_become}
 use Rattle.gui_core.specs.Scenes.{IsInStep}
+use Rattle.gui_core.specs.Windows.{with_memdev}
 use Rattle.gui_core.proofs.IgnoreLemmas.{bare_invalidated}
-use Rattle.gui_core.proofs.SceneLemmas.{found_has, changed_alike, bare_changed, becomes_valid}
-use Rattle.gui_core.proofs.FollowLemmas.{given_bare}
+use Rattle.gui_core.proofs.SceneLemmas.{found_has, changed_alike, becomes_valid}
 
--- a window at its place becomes another one, that differs in what is invalid alone
+-- a window at its place becomes another one, that may stand there in the tree and has the same handle
 pub record BecomesAt (ws : List Win) (at : ℕ) (f : Win → Win) : Type 0 where
   pub there : at < length ws
-  pub only : (w : Win) → bare (f w) ≡ bare w
+  pub replaces : (w : Win) → IsWindow (f w) → MayReplace w (f w)
+  pub handle : (w : Win) → (f w).handle ≡ w.handle
   pub valid : (w : Win) → window_of ws (get_or ws at no_window).handle ≡ Some w → MayBecome w (f w)
 
 -- the list with it changed by its handle
@@ -38,14 +40,7 @@ may_put ws at f stack b =
     let v = f w in
     let live = found_there ws at f stack b in
     let become = b.valid w live in
-    subst (λ (o : Option Win). IsReplacement o v) (sym (ap (window_of ws) become.handle ∙ live)) (replaces w v (b.only w) become.window)
-  where
-    replaces : (w v : Win) → bare v ≡ bare w → IsWindow v → MayReplace w v
-    replaces w v e window = record {
-      same = ap (λ (u : Win). record u { invalid = v.invalid }) e ∙ ap (λ (u : Win). record w { class = u.class; trans = u.trans; memdev = u.memdev; values = u.values; invalid = v.invalid }) (sym e);
-      invalid = window.invalid;
-      desktop = λ one. (ap (λ (u : Win). u.class) e, ap (λ (u : Win). u.trans) e);
-    }
+    subst (λ (o : Option Win). IsReplacement o v) (sym (ap (window_of ws) become.handle ∙ live)) (b.replaces w become.window)
 
 -- then the tree has the same list
 pub put_there : (ws : List Win) (at : ℕ) (f : Win → Win) → IsStack ws → BecomesAt ws at f → let v = f (get_or ws at no_window) in window_changed v.handle (λ u. v) ws ≡ with_change_at ws at f
@@ -56,6 +51,16 @@ put_there ws at f stack b =
     ∙ changed_alike w.handle (λ u. f w) f w ws ws live refl (all_found ws stack.single)
 
 -- ---- a window that was put
+
+given_changed : (handles h : ℕ) (f : Win → Win) (ws : List Win) → ((w : Win) → (f w).handle ≡ w.handle) → AreGiven handles ws → AreGiven handles (window_changed h f ws)
+unfolding window_changed
+given_changed handles h f [] same given = tt
+given_changed handles h f (w ∷ ws) same given =
+    let later = given_changed handles h f ws same given.1 in
+    elim (cases_Bool (eqb w.handle h)) [
+      | inl at ↦ rw at (subst (λ (n : ℕ). n ≤ handles) (sym (same w)) given.0, later)
+      | inr off ↦ rw off (given.0, later)
+    ]
 
 -- the window at a place became another one in the list, and then in the tree
 pub record PutAt (tree end : Scene) (stack now : List Win) (at : ℕ) (f : Win → Win) : Type 0 where
@@ -85,7 +90,7 @@ put_in_step tree end stack now at f p =
     (record {
       windows = refl;
       stack = subst IsStack (sym is) (changed_valid (get_or stack at no_window).handle f stack p.stack_is b.valid);
-      given = given_bare tree.handles stack now (ap (map bare) is ∙ bare_changed (get_or stack at no_window).handle f stack b.only) p.given;
+      given = subst (AreGiven tree.handles) (sym is) (given_changed tree.handles (get_or stack at no_window).handle f stack b.handle p.given);
     })
 
 -- what callers see then
@@ -99,16 +104,48 @@ put_view tree end old stack now at h f p handle view =
 
 -- ---- what becomes of it
 
+-- where no more than what is invalid changes, the window may stand there
+bare_replaces : (w v : Win) → bare v ≡ bare w → IsWindow v → MayReplace w v
+bare_replaces w v e window = record {
+  same = ap (λ (u : Win). record u { invalid = v.invalid }) e ∙ ap (λ (u : Win). record w { class = u.class; trans = u.trans; memdev = u.memdev; values = u.values; invalid = v.invalid }) (sym e);
+  invalid = window.invalid;
+  desktop = λ one. (ap (λ (u : Win). u.class) e, ap (λ (u : Win). u.trans) e);
+}
+
+pub memdev_may_become : (ws : List Win) (h : ℕ) (memdev : Bool) → IsStack ws → (w : Win) → window_of ws h ≡ Some w → MayBecome w (with_memdev memdev w)
+memdev_may_become ws h memdev stack w live =
+    let is = found_has IsWindow ws h w live stack.windows in
+    let desk = found_has (λ v. v.handle ≡ 1 → IsDesktop v) ws h w live (desktops ws stack) in
+    record {
+      handle = refl;
+      parent = refl;
+      window = record { handle = is.handle; some_width = is.some_width; width = is.width; some_height = is.some_height; height = is.height; invalid = is.invalid };
+      desktop = λ one. let d = desk one in record { x = d.x; y = d.y; width = d.width; height = d.height; shown = d.shown; class = d.class; trans = d.trans };
+    }
+
+pub becomes_memdev : (ws : List Win) (at : ℕ) (memdev : Bool) → IsStack ws → at < length ws → BecomesAt ws at (with_memdev memdev)
+becomes_memdev ws at memdev stack there = record {
+  there = there;
+  replaces = λ w window. record { same = refl; invalid = window.invalid; desktop = λ one. (refl, refl) };
+  handle = λ w. refl;
+  valid = λ w live. memdev_may_become ws (get_or ws at no_window).handle memdev stack w live;
+}
+
+same_handle : (w v : Win) → bare v ≡ bare w → v.handle ≡ w.handle
+same_handle w v e = ap (λ (u : Win). u.handle) e
+
 pub becomes_invalid : (ws : List Win) (at : ℕ) (clip area : Win → Rect) → IsStack ws → at < length ws → BecomesAt ws at (λ w. invalidated (clip w) (area w) w)
 becomes_invalid ws at clip area stack there = record {
   there = there;
-  only = λ w. bare_invalidated (clip w) (area w) w;
+  replaces = λ w window. bare_replaces w (invalidated (clip w) (area w) w) (bare_invalidated (clip w) (area w) w) window;
+  handle = λ w. same_handle w (invalidated (clip w) (area w) w) (bare_invalidated (clip w) (area w) w);
   valid = λ w live. may_become (clip w) (area w) w (found_has IsWindow ws (get_or ws at no_window).handle w live stack.windows) (found_has (λ v. v.handle ≡ 1 → IsDesktop v) ws (get_or ws at no_window).handle w live (desktops ws stack));
 }
 
 pub becomes_valid_at : (ws : List Win) (at : ℕ) → IsStack ws → at < length ws → BecomesAt ws at (λ w. with_invalid w None)
 becomes_valid_at ws at stack there = record {
   there = there;
-  only = λ w. refl;
+  replaces = λ w window. bare_replaces w (with_invalid w None) refl window;
+  handle = λ w. refl;
   valid = λ w live. becomes_valid w (found_has IsWindow ws (get_or ws at no_window).handle w live stack.windows) (found_has (λ v. v.handle ≡ 1 → IsDesktop v) ws (get_or ws at no_window).handle w live (desktops ws stack));
 }

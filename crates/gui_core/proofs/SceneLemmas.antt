@@ -17,7 +17,7 @@ use Rattle.scene.proofs.CallerLemmas.{bare, bare-area, AreFound, all_found, desk
 use Rattle.win_tree.proofs.CallerLemmas.{AllBy-rest, AllBy-block, AllBy-whole, placed, family_stands, raised_stands, lowered_stands, created_stands, IsNew, created_valid, without_valid, raised_valid, lowered_valid, created_found, without_found, raised_found, lowered_found, created_given, without_given, raised_given, lowered_given}
 use Rattle.invalidate.proofs.CallerLemmas.{area_valid}
 use Rattle.gui_core.specs.Setups.{Setup, screen_of}
-use Rattle.gui_core.specs.Windows.{after_change, clip_at, listed, are_as_they_were}
+use Rattle.gui_core.specs.Windows.{with_memdev, after_change, clip_at, listed, are_as_they_were}
 use Rattle.gui_core.specs.Scenes.{HasClass, IsScene}
 use Rattle.invalidate.specs.Invalidation.{is_invalid}
 use Rattle.gui_core.specs.Jobs.{windows_after_job}
@@ -166,6 +166,27 @@ bare_changed h f (u ∷ us) same =
 pub scene_marked : (setup : Setup) (ws : List Win) (handles h : ℕ) (f : Win → Win) → IsScene setup ws handles → ((w : Win) → bare (f w) ≡ bare w) → ((w : Win) → window_of ws h ≡ Some w → MayBecome w (f w))
     → IsScene setup (window_changed h f ws) handles
 scene_marked setup ws handles h f s same stands = scene_bare setup ws (window_changed h f ws) handles s (bare_changed h f ws same) (changed_valid h f ws s.stack stands)
+
+-- the same where a window is composed aside, or no longer
+screen-changed : (h : ℕ) (f : Win → Win) (ws : List Win) → ((w : Win) → (f w).w ≡ w.w) → ((w : Win) → (f w).h ≡ w.h) → desktop_screen (window_changed h f ws) ≡ desktop_screen ws
+unfolding window_changed
+screen-changed h f [] wide high = refl
+screen-changed h f (w ∷ ws) wide high =
+    elim (cases_Bool (eqb w.handle h)) [
+      | inl at ↦ rw at (ap (λ (n : ℕ). screen_with n (f w).h) (wide w) ∙ ap (screen_with w.w) (high w))
+      | inr off ↦ rw off refl
+    ]
+
+pub scene_memdev : (setup : Setup) (ws : List Win) (handles h : ℕ) (memdev : Bool) → IsScene setup ws handles → ((w : Win) → window_of ws h ≡ Some w → MayBecome w (with_memdev memdev w)) → IsScene setup (window_changed h (with_memdev memdev) ws) handles
+scene_memdev setup ws handles h memdev s may =
+    let f : Win → Win = with_memdev memdev in
+    let found = all_found ws s.stack.single in
+    record {
+      stack = changed_valid h f ws s.stack may;
+      given = all_changed (λ v. v.handle ≤ handles) h f ws ws (λ w is. found_has (λ v. v.handle ≤ handles) ws h w is s.given) found s.given;
+      screen = screen-changed h f ws (λ w. refl) (λ w. refl) ∙ s.screen;
+      classes = all_changed (HasClass setup) h f ws ws (λ w is. found_has (HasClass setup) ws h w is s.classes) found s.classes;
+    }
 
 -- ---- families
 

@@ -1,5 +1,5 @@
 -- What the painter's picture looks at, and the calls that change nothing of it.
-use Rattle.std.proofs.Common.{◌≡◌, ℕ, ℤ, ◌+◌, zero, suc, pos, true, false, cond, List, [], ◌∷◌, length, map, Option, Some, None, refl, sym, ap, subst, ◌∙◌, inl, inr}
+use Rattle.std.proofs.Common.{◌≡◌, ℕ, ℤ, ◌+◌, zero, suc, pos, Bool, true, false, cond, List, [], ◌∷◌, length, map, Option, Some, None, refl, sym, ap, subst, ◌∙◌, inl, inr}
 use Rattle.std.specs.List.{list_any}
 use Rattle.std.proofs.Math.Path.{fun_ext}
 use Rattle.std.proofs.lemmas.Bool.{cases_Bool}
@@ -8,11 +8,10 @@ use Rattle.gfx_base.specs.Rects.{point_at}
 use Rattle.frame.specs.Pictures.{picture_of}
 use Rattle.scene.specs.declared.win.Win.{Win}
 use Rattle.scene.specs.Clips.{clip_in}
-use Rattle.scene.specs.Families.{new_window, on_top_of}
+use Rattle.scene.specs.Families.{new_window, on_top_of, window_changed}
 use Rattle.scene.proofs.CallerLemmas.{bare, bare-area, painted-same}
-use Rattle.strokes.specs.declared.shape.Shape.{Shape}
 use Rattle.calls.specs.declared.call.Call.{Call}
-use Rattle.calls.specs.declared.call.Call.TheVariants.{Create, Delete, MoveTo, MoveBy, Resize, Show, Hide, ToTop, ToBottom, SetClass, Invalidate, InvalidateRect, InvalidateArea, Exec, Exec1, Scan, SetTrans, SetValue, Send, Select, Colour, BkColour, TextMode, Font, Save, Restore, Fill, Frame, Line, Bitmap, Text}
+use Rattle.calls.specs.declared.call.Call.TheVariants.{Create, Delete, MoveTo, MoveBy, Resize, Show, Hide, ToTop, ToBottom, SetClass, Invalidate, InvalidateRect, InvalidateArea, Exec, Exec1, Scan, SetTrans, SetMemdev, SetValue, Send, Select, Colour, BkColour, TextMode, Font, Save, Restore, Fill, Frame, Line, Bitmap, Text, DevCreate, DevDelete, DevSelect, DevCopy}
 use Rattle.calls.specs.declared.entry.Entry.{Entry}
 use Rattle.calls.specs.declared.entry.Entry.TheVariants as entry
 use Rattle.calls.specs.declared.reply.Reply.{Reply}
@@ -25,11 +24,13 @@ use Rattle.invalidate.specs.Invalidation.{is_invalid}
 use Rattle.gui_core.specs.Changes.{list_after}
 use Rattle.gui_core.specs.Jobs.{jobs_of}
 use Rattle.gui_core.specs.States.{State, Step, Objection, opening, is_context_call, objections, objections_to, refusal_of, unless_refused, changed, created, after_create, after_job, after_jobs, painted, rect_with, effect, other_effect, effect_of, step_of_call, step, state_after}
-use Rattle.gui_core.specs.Drawing.{shape_of}
+use Rattle.gui_core.specs.Devices.{DevicePictures}
+use Rattle.gui_core.specs.Drawing.{Work, Draw, Copy, Make, Discard, work_of, reply_to}
+use Rattle.gui_core.specs.Windows.{with_memdev}
 use Rattle.gui_core.specs.Promises.{changes_windows, window_calls}
 use Rattle.gui_core.proofs.IgnoreLemmas.{bare-job}
 use Rattle.gui_core.proofs.ShapeLemmas.{on_top_of-map}
-use Rattle.gui_core.proofs.MessageLemmas.{revalued_at, bare_value, plainly_sent, bare_message}
+use Rattle.gui_core.proofs.MessageLemmas.{changed_both, revalued_at, bare_value, plainly_sent, bare_message}
 use Rattle.gui_core.proofs.BareLemmas.{keeps_bare, bare_after_change, bare_window, bare_rect, listed_bare, objections-bare}
 
 -- ---- a refused call
@@ -63,15 +64,21 @@ effect_is_no_refusal setup s call r e = absurd cc
 reply_is_done : (r : Refusal) → ◌≡◌ {A = Reply} Done (Refused r) → ⊥
 reply_is_done r same = absurd cc
 
-other_is_no_refusal : (setup : Setup) (s : State) (actor : ℕ) (o : Option Shape) (call : Call) (r : Refusal) → (other_effect setup s actor o call).reply ≡ Refused r → ⊥
-other_is_no_refusal setup s actor None call r e = effect_is_no_refusal setup s call r e
-other_is_no_refusal setup s actor (Some shape) call r e = reply_is_done r e
+work_is_no_refusal : (ds : DevicePictures) (work : Work) (r : Refusal) → reply_to ds work ≡ Refused r → ⊥
+work_is_no_refusal ds (Draw shape) r e = absurd cc
+work_is_no_refusal ds (Copy device x y) r e = absurd cc
+work_is_no_refusal ds (Make w h) r e = absurd cc
+work_is_no_refusal ds (Discard device) r e = absurd cc
 
-no_effect_refuses : (setup : Setup) (s : State) (actor : ℕ) (call : Call) (r : Refusal) → (effect_of setup s actor call).reply ≡ Refused r → ⊥
+other_is_no_refusal : (setup : Setup) (s : State) (actor : ℕ) (o : Option Work) (call : Call) (r : Refusal) → (other_effect setup s actor o call).reply ≡ Refused r → ⊥
+other_is_no_refusal setup s actor None call r e = effect_is_no_refusal setup s call r e
+other_is_no_refusal setup s actor (Some work) call r e = work_is_no_refusal s.devices work r e
+
+pub no_effect_refuses : (setup : Setup) (s : State) (actor : ℕ) (call : Call) (r : Refusal) → (effect_of setup s actor call).reply ≡ Refused r → ⊥
 no_effect_refuses setup s actor call r e =
     elim (cases_Bool (is_context_call call)) [
       | inl on ↦ reply_is_done r (rw on at e)
-      | inr other ↦ other_is_no_refusal setup s actor (shape_of call) call r (rw other at e)
+      | inr other ↦ other_is_no_refusal setup s actor (work_of call) call r (rw other at e)
     ]
 
 pub refusal_changes_nothing : (setup : Setup) (s : State) (e : Entry) (refusal : Refusal) → (step setup s e).reply ≡ Refused refusal → (step setup s e).state ≡ s
@@ -137,6 +144,9 @@ changed_alike setup s t h c e = record {
 abbrev one_job : State → ℕ
 one_job s = cond (list_any is_invalid s.windows) 1 0
 
+bare_memdev : (h : ℕ) (memdev : Bool) (ws : List Win) → map bare (window_changed h (with_memdev memdev) ws) ≡ window_changed h (with_memdev memdev) (map bare ws)
+bare_memdev h memdev ws = changed_both bare (with_memdev memdev) (with_memdev memdev) keeps_bare h ws (λ w. refl)
+
 -- each call leads from alike states to alike ones
 effect_alike : (setup : Setup) (s t : State) (call : Call) → AreAlike s t → AreAlike (effect setup s call).state (effect setup t call).state
 effect_alike setup s t (Create parent x y w h class) e = created_alike setup s t parent x y w h class e
@@ -150,6 +160,10 @@ effect_alike setup s t (ToTop h) e = changed_alike setup s t h change.ToTop e
 effect_alike setup s t (ToBottom h) e = changed_alike setup s t h change.ToBottom e
 effect_alike setup s t (SetClass h class) e = changed_alike setup s t h (change.SetClass class) e
 effect_alike setup s t (SetTrans h trans) e = changed_alike setup s t h (change.SetTrans trans) e
+effect_alike setup s t (SetMemdev h memdev) e = record {
+  windows = bare_memdev h memdev s.windows ∙ ap (window_changed h (with_memdev memdev)) e.windows ∙ sym (bare_memdev h memdev t.windows);
+  handles = e.handles;
+}
 effect_alike setup s t (SetValue h index value) e = record {
   windows = bare_value (screen_of setup) h index value s.windows ∙ ap (revalued_at h index value) e.windows ∙ sym (bare_value (screen_of setup) h index value t.windows);
   handles = e.handles;
@@ -191,15 +205,15 @@ context_alike setup s actor call on = stays (refusal_of (objections_to setup s a
     stays None = rw on (record { windows = refl; handles = refl })
     stays (Some refusal) = alike_refl s
 
--- nor does a stroke
-stroke_alike : (setup : Setup) (s : State) (actor : ℕ) (call : Call) (shape : Shape) → is_context_call call ≡ false → shape_of call ≡ Some shape → AreAlike s (step_of_call setup s actor call).state
-stroke_alike setup s actor call shape other is = stays (refusal_of (objections_to setup s actor call))
+-- nor does work
+work_alike : (setup : Setup) (s : State) (actor : ℕ) (call : Call) (work : Work) → is_context_call call ≡ false → work_of call ≡ Some work → AreAlike s (step_of_call setup s actor call).state
+work_alike setup s actor call work other is = stays (refusal_of (objections_to setup s actor call))
   where
     stays : (o : Option Refusal) → AreAlike s (unless_refused o s (effect_of setup s actor call)).state
     stays None = rw (other, is) (record { windows = refl; handles = refl })
     stays (Some refusal) = alike_refl s
 
-windows_alike : (setup : Setup) (s t : State) (actor : ℕ) (call : Call) → is_context_call call ≡ false → shape_of call ≡ None → AreAlike s t → AreAlike (step_of_call setup s actor call).state (step_of_call setup t actor call).state
+windows_alike : (setup : Setup) (s t : State) (actor : ℕ) (call : Call) → is_context_call call ≡ false → work_of call ≡ None → AreAlike s t → AreAlike (step_of_call setup s actor call).state (step_of_call setup t actor call).state
 windows_alike setup s t actor call other none e =
     let classes = length setup.assets.classes in
     let same : objections classes s.windows call ≡ objections classes t.windows call =
@@ -208,16 +222,16 @@ windows_alike setup s t actor call other none e =
     (subst (λ (l : List Objection). AreAlike (unless_refused (refusal_of l) s (effect setup s call)).state (unless_refused (refusal_of (objections classes t.windows call)) t (effect setup t call)).state) (sym same)
     (unless_alike (refusal_of (objections classes t.windows call)) s t (effect setup s call) (effect setup t call) e (effect_alike setup s t call e)))
 
-others_alike : (setup : Setup) (s t : State) (actor : ℕ) (call : Call) (o : Option Shape) → is_context_call call ≡ false → shape_of call ≡ o → AreAlike s t → AreAlike (step_of_call setup s actor call).state (step_of_call setup t actor call).state
+others_alike : (setup : Setup) (s t : State) (actor : ℕ) (call : Call) (o : Option Work) → is_context_call call ≡ false → work_of call ≡ o → AreAlike s t → AreAlike (step_of_call setup s actor call).state (step_of_call setup t actor call).state
 others_alike setup s t actor call None other is e = windows_alike setup s t actor call other is e
-others_alike setup s t actor call (Some shape) other is e = alike_after _ s _ (alike_sym s _ (stroke_alike setup s actor call shape other is)) (alike_after s t _ e (stroke_alike setup t actor call shape other is))
+others_alike setup s t actor call (Some work) other is e = alike_after _ s _ (alike_sym s _ (work_alike setup s actor call work other is)) (alike_after s t _ e (work_alike setup t actor call work other is))
 
 step_alike : (setup : Setup) (s t : State) (e : Entry) → AreAlike s t → AreAlike (step setup s e).state (step setup t e).state
 unfolding step
 step_alike setup s t (entry.Call actor call) e =
     elim (cases_Bool (is_context_call call)) [
       | inl on ↦ alike_after _ s _ (alike_sym s _ (context_alike setup s actor call on)) (alike_after s t _ e (context_alike setup t actor call on))
-      | inr other ↦ others_alike setup s t actor call (shape_of call) other refl e
+      | inr other ↦ others_alike setup s t actor call (work_of call) other refl e
     ]
 
 -- the other calls change nothing but what is invalid
@@ -234,6 +248,7 @@ other_alike setup s (entry.Call actor (ToTop h)) window = absurd cc
 other_alike setup s (entry.Call actor (ToBottom h)) window = absurd cc
 other_alike setup s (entry.Call actor (SetClass h class)) window = absurd cc
 other_alike setup s (entry.Call actor (SetTrans h trans)) window = absurd cc
+other_alike setup s (entry.Call actor (SetMemdev h memdev)) window = absurd cc
 other_alike setup s (entry.Call actor (SetValue h index value)) window = absurd cc
 other_alike setup s (entry.Call actor (Send h message argument)) window = absurd cc
 other_alike setup s (entry.Call actor (Invalidate h)) window = absurd cc
@@ -243,17 +258,21 @@ other_alike setup s (entry.Call actor Exec) window = alike_sym _ s (jobs_alike s
 other_alike setup s (entry.Call actor Exec1) window = alike_sym _ s (jobs_alike setup (one_job s) s)
 other_alike setup s (entry.Call actor Scan) window = alike_refl s
 other_alike setup s (entry.Call actor (Select h)) window = context_alike setup s actor (Select h) refl
+other_alike setup s (entry.Call actor (DevSelect device)) window = context_alike setup s actor (DevSelect device) refl
 other_alike setup s (entry.Call actor (Colour c)) window = context_alike setup s actor (Colour c) refl
 other_alike setup s (entry.Call actor (BkColour c)) window = context_alike setup s actor (BkColour c) refl
 other_alike setup s (entry.Call actor (TextMode trans)) window = context_alike setup s actor (TextMode trans) refl
 other_alike setup s (entry.Call actor (Font font)) window = context_alike setup s actor (Font font) refl
 other_alike setup s (entry.Call actor Save) window = context_alike setup s actor Save refl
 other_alike setup s (entry.Call actor Restore) window = context_alike setup s actor Restore refl
-other_alike setup s (entry.Call actor (Fill x0 y0 x1 y1)) window = stroke_alike setup s actor (Fill x0 y0 x1 y1) _ refl refl
-other_alike setup s (entry.Call actor (Frame x0 y0 x1 y1)) window = stroke_alike setup s actor (Frame x0 y0 x1 y1) _ refl refl
-other_alike setup s (entry.Call actor (Line x0 y0 x1 y1)) window = stroke_alike setup s actor (Line x0 y0 x1 y1) _ refl refl
-other_alike setup s (entry.Call actor (Bitmap bitmap x y)) window = stroke_alike setup s actor (Bitmap bitmap x y) _ refl refl
-other_alike setup s (entry.Call actor (Text x y string)) window = stroke_alike setup s actor (Text x y string) _ refl refl
+other_alike setup s (entry.Call actor (Fill x0 y0 x1 y1)) window = work_alike setup s actor (Fill x0 y0 x1 y1) _ refl refl
+other_alike setup s (entry.Call actor (Frame x0 y0 x1 y1)) window = work_alike setup s actor (Frame x0 y0 x1 y1) _ refl refl
+other_alike setup s (entry.Call actor (Line x0 y0 x1 y1)) window = work_alike setup s actor (Line x0 y0 x1 y1) _ refl refl
+other_alike setup s (entry.Call actor (Bitmap bitmap x y)) window = work_alike setup s actor (Bitmap bitmap x y) _ refl refl
+other_alike setup s (entry.Call actor (Text x y string)) window = work_alike setup s actor (Text x y string) _ refl refl
+other_alike setup s (entry.Call actor (DevCreate w h)) window = work_alike setup s actor (DevCreate w h) _ refl refl
+other_alike setup s (entry.Call actor (DevDelete device)) window = work_alike setup s actor (DevDelete device) _ refl refl
+other_alike setup s (entry.Call actor (DevCopy device x y)) window = work_alike setup s actor (DevCopy device x y) _ refl refl
 
 entries_alike : (setup : Setup) (s t : State) (es : List Entry) → AreAlike s t → AreAlike (state_after setup s (window_calls es)) (state_after setup t es)
 entries_alike setup s t [] alike = alike

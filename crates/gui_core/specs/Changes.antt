@@ -1,5 +1,5 @@
--- What the calls on one window do to the list, and calls on a context and of a shape. No contract of a public
--- function names these.
+-- What the calls on one window do to the list, and calls on a context and of a shape. No contract
+-- of a public function names these.
 use Rattle.std.specs.Prelude.{ℕ, true, false, List}
 use Rattle.scene.specs.declared.win.Win.{Win}
 use Rattle.scene.specs.Families.{without_family, raised, lowered, window_changed, moved_to, resized_to, with_shown}
@@ -29,6 +29,7 @@ call_for h (SetTrans trans) = call.SetTrans h trans
 -- the call on a context that asks for the change
 abbrev pub context_call : ContextChange → Call
 context_call (context_change.Select h) = call.Select h
+context_call (context_change.Device device) = call.DevSelect device
 context_call (context_change.Colour c) = call.Colour c
 context_call (context_change.BkColour c) = call.BkColour c
 context_call (context_change.TextMode trans) = call.TextMode trans

@@ -4,6 +4,7 @@ pub mod Changes
 pub mod Scenes
 pub mod Refusals
 pub mod Jobs
+pub mod Devices
 pub mod Drawing
 pub mod States
 pub mod Stains

@@ -1,14 +1,15 @@
 -- The core as its callers see it: its state with what it was opened with.
-use Rattle.std.specs.Prelude.{◌≡◌, ℕ, ◌+◌, ◌≤◌, if◌then◌else◌, length}
+use Rattle.std.specs.Prelude.{◌≡◌, ℕ, ◌+◌, ◌≤◌, Bool, true, false, None, if◌then◌else◌, length}
 use Rattle.paint_ops.specs.Kinds.{Assets}
 use Rattle.paint_ops.specs.Soundness.{IsSound}
 use Rattle.gui_core.specs.Scenes.{IsScene}
 use Rattle.calls.specs.declared.config.Config.{Config}
 use Rattle.calls.specs.declared.call.Call.{Call}
+use Rattle.calls.specs.declared.call.Call.TheVariants.{DevCreate}
 use Rattle.calls.specs.declared.entry.Entry.TheVariants as entry
 use Rattle.calls.specs.declared.reply.Reply.{Reply}
 use Rattle.gui_core.specs.Setups.{Setup, setup_for}
-use Rattle.gui_core.specs.States.{State, Step, opening, step_of_call, step, is_refused}
+use Rattle.gui_core.specs.States.{State, Step, opening, objections_to, refusal_of, step_of_call, step, is_refused}
 
 -- what it was opened with, its state, how many calls were made, and how many of them were refused
 pub record Machine : Type 0 where
@@ -50,6 +51,17 @@ pub record Answers (old : Machine) (actor : ℕ) (call : Call) (new : Machine)
   pub made : new.made ≡ old.made + 1
   pub refused : new.refused ≡ old.refused + (if is_refused reply then 1 else 0)
 
+-- whether a call makes a device
+abbrev pub makes_device : Call → Bool
+makes_device (DevCreate w h) = true
+makes_device call = false
+
+-- a call wasn't made, and isn't counted: it makes a device, against which nothing is held
+pub record IsUnmade (old : Machine) (actor : ℕ) (call : Call) (new : Machine) : Type 0 where
+  pub unchanged : new ≡ old
+  pub makes : makes_device call ≡ true
+  pub free : refusal_of (objections_to old.setup old.state actor call) ≡ None
+
 -- What is true of every core.
 pub record IsKept (m : Machine) : Type 0 where
   pub config : IsConfig m.setup.config
@@ -59,5 +71,6 @@ pub record IsKept (m : Machine) : Type 0 where
   pub height : m.state.shown.height ≡ m.setup.config.h
   pub scene : IsScene m.setup m.state.windows m.state.handles
   pub handles : m.state.handles ≤ m.made + 1
+  pub devices : m.state.devices.handles ≤ m.made
   pub made : m.made ≤ m.setup.config.calls
   pub refused : m.refused ≤ m.made

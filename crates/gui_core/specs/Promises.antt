@@ -7,7 +7,7 @@ use Rattle.scene.specs.declared.win.Win.{Win}
 use Rattle.scene.specs.Painting.{painted}
 use Rattle.scene.specs.Damage.{is_damaged}
 use Rattle.calls.specs.declared.call.Call.{Call}
-use Rattle.calls.specs.declared.call.Call.TheVariants.{Exec, Exec1, Scan, Select, Colour, BkColour, TextMode, Font, Save, Restore, Fill, Frame, Line, Bitmap, Text}
+use Rattle.calls.specs.declared.call.Call.TheVariants.{Exec, Exec1, Scan, Select, Colour, BkColour, TextMode, Font, Save, Restore, Fill, Frame, Line, Bitmap, Text, DevCreate, DevDelete, DevSelect, DevCopy}
 use Rattle.calls.specs.declared.entry.Entry.{Entry}
 use Rattle.calls.specs.declared.entry.Entry.TheVariants as entry
 use Rattle.gui_core.specs.Setups.{Setup, looks_of, painter}
@@ -52,6 +52,10 @@ is_window_call (Frame x0 y0 x1 y1) = false
 is_window_call (Line x0 y0 x1 y1) = false
 is_window_call (Bitmap bitmap x y) = false
 is_window_call (Text x y string) = false
+is_window_call (DevCreate w h) = false
+is_window_call (DevDelete device) = false
+is_window_call (DevSelect device) = false
+is_window_call (DevCopy device x y) = false
 is_window_call call = true
 
 -- whether an entry may

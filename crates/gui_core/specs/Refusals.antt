@@ -1,15 +1,17 @@
--- How the tree's refusals are answered. No contract of a public function names these.
+-- How the refusals of the tree and the devices are answered. No contract of a public function names these.
 use Rattle.std.specs.Prelude.{◌≡◌, ℕ, ◌+◌, List, Option, Some, None, Result, Ok, Err}
-use Rattle.frame.specs.Pictures.{Picture}
 use Rattle.context.specs.Contexts.{Owned, with_owned}
 use Rattle.scene.specs.declared.win.Win.{Win}
 use Rattle.win_tree.specs.Trees.{Scene}
 use Rattle.win_tree.specs.declared.refused.TreeRefused.{TreeRefused}
 use Rattle.win_tree.specs.declared.refused.TreeRefused.TheVariants as tree
+use Rattle.memdev.specs.declared.refused.DevRefused.{DevRefused}
+use Rattle.memdev.specs.declared.refused.DevRefused.TheVariants as device
 use Rattle.calls.specs.declared.reply.Reply.{Reply}
 use Rattle.calls.specs.declared.reply.Reply.TheVariants.{Done, Refused}
 use Rattle.calls.specs.declared.reply.Refusal.{Refusal}
-use Rattle.calls.specs.declared.reply.Refusal.TheVariants.{NoWindow, Desktop, BadSize, TooManyWindows, TooDeep}
+use Rattle.calls.specs.declared.reply.Refusal.TheVariants.{NoWindow, Desktop, BadSize, TooManyWindows, TooDeep, NoDevice, TooManyDevices, Memory}
+use Rattle.gui_core.specs.Drawing.{Surfaces}
 
 -- the core's refusal for the tree's
 abbrev pub refusal_for : TreeRefused → Refusal
@@ -18,6 +20,13 @@ refusal_for tree.Desktop = Desktop
 refusal_for tree.BadSize = BadSize
 refusal_for tree.TooManyWindows = TooManyWindows
 refusal_for tree.TooDeep = TooDeep
+
+-- the core's refusal for that of the devices
+abbrev pub device_refusal : DevRefused → Refusal
+device_refusal device.BadSize = BadSize
+device_refusal device.TooMany = TooManyDevices
+device_refusal (device.NoDevice handle) = NoDevice handle
+device_refusal device.Memory = Memory
 
 -- the tree's answer, as the core gives it
 abbrev pub told : Result (Unit {0}) TreeRefused → Result (Unit {0}) Refusal
@@ -46,8 +55,9 @@ abbrev pub Alters : Result (Unit {0}) Refusal → Option Refusal → Owned → �
 Alters (Ok _) reason own task old new = (reason ≡ None) × (new ≡ with_owned old task own)
 Alters (Err refusal) reason own task old new = (reason ≡ Some refusal) × (new ≡ old)
 
--- the same for a call that draws this picture
-abbrev pub Draws : Result (Unit {0}) Refusal → Option Refusal → Picture → Picture → Picture → Type 0
+-- the same for work after which the surfaces are these
+abbrev pub Draws : Result (Unit {0}) Refusal → Option Refusal → Surfaces → Surfaces → Surfaces
+    → Type 0
 Draws (Ok _) reason now old new = (reason ≡ None) × (new ≡ now)
 Draws (Err refusal) reason now old new = (reason ≡ Some refusal) × (new ≡ old)
 

@@ -6,7 +6,6 @@ use Rattle.gfx_base.specs.declared.point.Point.{Point}
 use Rattle.context.specs.Contexts.{owned_by}
 use Rattle.scene.specs.declared.win.Win.{Win}
 use Rattle.scene.specs.Damage.{in_patch_at}
-use Rattle.strokes.specs.declared.shape.Shape.{Shape}
 use Rattle.calls.specs.declared.call.Call.{Call}
 use Rattle.calls.specs.declared.call.Call.TheVariants.{Exec, Exec1}
 use Rattle.calls.specs.declared.entry.Entry.{Entry}
@@ -14,7 +13,7 @@ use Rattle.calls.specs.declared.entry.Entry.TheVariants as entry
 use Rattle.invalidate.specs.Invalidation.{is_invalid}
 use Rattle.gui_core.specs.Setups.{Setup, looks_of}
 use Rattle.gui_core.specs.Jobs.{jobs_of}
-use Rattle.gui_core.specs.Drawing.{shape_of, stroke_puts}
+use Rattle.gui_core.specs.Drawing.{Work, work_of, ink_of, ink_puts, may_ink}
 use Rattle.gui_core.specs.States.{State, after_job, step, objections_to, refusal_of}
 
 -- which points are in it
@@ -47,16 +46,18 @@ left_stained setup s Exec1 stain =
     stain_after_jobs setup (if list_any is_invalid s.windows then 1 else 0) s stain
 left_stained setup s call stain = stain
 
--- a stroke of a task adds its points
-abbrev pub with_points : Setup → State → ℕ → Option Shape → Stain → Stain
+-- what a task draws adds its points
+abbrev pub with_points : Setup → State → ℕ → Option Work → Stain → Stain
 with_points setup s task None stain = stain
-with_points setup s task (Some shape) stain =
-    λ p. stain p || stroke_puts setup s.windows (owned_by s.contexts task).context shape p
+with_points setup s task (Some work) stain =
+    let c = (owned_by s.contexts task).context in
+    let looks = looks_of setup s.windows in
+    λ p. stain p || ink_puts looks s.windows c (ink_of setup.assets s.devices c work) p
 
 -- the stain after a call that isn't refused
 abbrev pub stain_after_call : Setup → State → ℕ → Call → Stain → Stain
 stain_after_call setup s task call stain =
-    with_points setup s task (shape_of call) (left_stained setup s call stain)
+    with_points setup s task (work_of call) (left_stained setup s call stain)
 
 -- the stain after an entry; a refused call leaves it
 abbrev pub stained : Setup → State → Entry → Stain → Stain
@@ -70,6 +71,6 @@ stain_after setup s [] stain = stain
 stain_after setup s (e ∷ es) stain =
     stain_after setup (step setup s e).state es (stained setup s e stain)
 
--- whether the entry's call draws a shape
+-- whether the entry's call may put down points of the screen: it draws a shape or copies a device
 abbrev pub draws : Entry → Bool
-draws (entry.Call actor call) = is_some (shape_of call)
+draws (entry.Call actor call) = option_map_or may_ink (work_of call) false

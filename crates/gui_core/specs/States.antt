@@ -1,6 +1,6 @@
--- The state of the windows, the shown picture and the tasks' contexts, and what each call does to
--- it.
-use Rattle.std.specs.Prelude.{ℕ, ℤ, zero, suc, ◌+◌, Bool, true, false, not, ◌==◌, nat_le, if◌then◌else◌, List, [], ◌∷◌, ◌++◌, length, Option, Some, None, is_some}
+-- The state of the windows, the shown picture, the tasks' contexts and the devices, and what each
+-- call does to it.
+use Rattle.std.specs.Prelude.{ℕ, ℤ, zero, suc, ◌+◌, Bool, true, false, not, ◌&&◌, ◌==◌, nat_le, if◌then◌else◌, List, [], ◌∷◌, ◌++◌, length, Option, Some, None, is_some}
 use Rattle.std.specs.List.{list_any}
 use Rattle.std.specs.Option.{option_map_or}
 use Rattle.gfx_base.specs.declared.rect.Rect.{Rect}
@@ -8,6 +8,7 @@ use Rattle.frame.specs.Pictures.{Picture, picture_of}
 use Rattle.context.specs.Contexts.{Owned, first_contexts, owned_by, with_owned, with_context, after_save, after_restore}
 use Rattle.context.specs.declared.context.Context.{Context}
 use Rattle.paint_ops.specs.Kinds.{Assets}
+use Rattle.memdev.specs.Refusals.{is_bad_device_size}
 use Rattle.strokes.specs.declared.shape.Shape.{Shape}
 use Rattle.strokes.specs.declared.shape.Shape.TheVariants as shape
 use Rattle.scene.specs.declared.win.Win.{Win}
@@ -15,26 +16,28 @@ use Rattle.scene.specs.Places.{window_of}
 use Rattle.scene.specs.Stacks.{is_bad_size, has_ancestors}
 use Rattle.scene.specs.Families.{new_window, desktop_with, on_top_of, without_family, raised, lowered, window_changed, moved_to, resized_to, with_shown}
 use Rattle.calls.specs.declared.call.Call.{Call}
-use Rattle.calls.specs.declared.call.Call.TheVariants.{Create, Delete, MoveTo, MoveBy, Resize, Show, Hide, ToTop, ToBottom, SetClass, Invalidate, InvalidateRect, InvalidateArea, Exec, Exec1, Scan, SetTrans, SetValue, Send, Select, Colour, BkColour, TextMode, Font, Save, Restore}
+use Rattle.calls.specs.declared.call.Call.TheVariants.{Create, Delete, MoveTo, MoveBy, Resize, Show, Hide, ToTop, ToBottom, SetClass, Invalidate, InvalidateRect, InvalidateArea, Exec, Exec1, Scan, SetTrans, SetMemdev, SetValue, Send, DevSelect, Select, Colour, BkColour, TextMode, Font, Save, Restore}
 use Rattle.calls.specs.declared.entry.Entry.{Entry}
 use Rattle.calls.specs.declared.entry.Entry.TheVariants as entry
 use Rattle.calls.specs.declared.reply.Reply.{Reply}
-use Rattle.calls.specs.declared.reply.Reply.TheVariants.{Done, Handle, Jobs, Refused}
+use Rattle.calls.specs.declared.reply.Reply.TheVariants.{Done, Handle, Jobs, Device, Refused}
 use Rattle.calls.specs.declared.reply.Refusal.{Refusal}
-use Rattle.calls.specs.declared.reply.Refusal.TheVariants.{NoWindow, Desktop, BadSize, TooManyWindows, TooDeep, NoClass, NoValue, NoFont, NoBitmap, NoText, ContextDepth, NoContext}
-use Rattle.gui_core.specs.Setups.{Setup, screen_of}
-use Rattle.gui_core.specs.Windows.{moved_by, with_class, after_change, with_invalid_window, with_invalid_rect, with_invalid_area, with_trans, with_value, with_message}
+use Rattle.calls.specs.declared.reply.Refusal.TheVariants.{NoWindow, Desktop, BadSize, TooManyWindows, TooDeep, NoClass, NoValue, NoFont, NoBitmap, NoText, NoDevice, TooManyDevices, Memory, ContextDepth, NoContext}
+use Rattle.gui_core.specs.Setups.{Setup, screen_of, looks_of}
+use Rattle.gui_core.specs.Windows.{moved_by, with_class, after_change, with_invalid_window, with_invalid_rect, with_invalid_area, with_trans, with_memdev, with_value, with_message}
 use Rattle.invalidate.specs.Invalidation.{is_invalid}
 use Rattle.gui_core.specs.Jobs.{windows_after_job, picture_after_job, jobs_of}
-use Rattle.gui_core.specs.Drawing.{shape_of, after_stroke}
+use Rattle.gui_core.specs.Devices.{DevicePicture, DevicePictures, no_device_pictures, picture_on}
+use Rattle.gui_core.specs.Drawing.{Work, Draw, Copy, Make, Discard, work_of, surfaces_after, reply_to}
 
--- the windows from back to front, how many handles were given out, the shown picture, and what each
--- task draws with and saved
+-- the windows from back to front, how many handles were given out, the shown picture, what each
+-- task draws with and saved, and the devices
 pub record State : Type 0 where
   pub windows : List Win
   pub handles : ℕ
   pub shown : Picture
   pub contexts : List Owned
+  pub devices : DevicePictures
 
 -- the picture that is drawn on; with one buffer it is the shown one
 abbrev pub latest : State → Picture
@@ -43,13 +46,15 @@ latest s = s.shown
 abbrev pub with_latest : State → Picture → State
 with_latest s p = record s { shown = p }
 
--- before the first call: the desktop alone, on a black picture, and each task's first context
+-- before the first call: the desktop alone, on a black picture, each task's first context, and no
+-- device
 abbrev pub opening : Setup → State
 opening setup = record {
   windows = desktop_with setup.config.w setup.config.h (screen_of setup) ∷ [];
   handles = 1;
   shown = picture_of setup.config.w setup.config.h (λ x y. 0);
   contexts = first_contexts;
+  devices = no_device_pictures;
 }
 
 -- the state after a call, and its reply
@@ -66,6 +71,7 @@ is_context_call (TextMode trans) = true
 is_context_call (Font font) = true
 is_context_call Save = true
 is_context_call Restore = true
+is_context_call (DevSelect device) = true
 is_context_call call = false
 
 -- ---- refusals
@@ -105,6 +111,18 @@ unknown_bitmap bitmaps bitmap = (nat_le bitmaps bitmap, NoBitmap bitmap)
 abbrev pub unknown_text : ℕ → ℕ → Objection
 unknown_text strings string = (nat_le strings string, NoText string)
 
+-- no device that lives has the handle
+abbrev pub no_device : List DevicePicture → ℕ → Objection
+no_device ds device = (not (is_some (picture_on ds device)), NoDevice device)
+
+-- the same, where 0 stands for the screen
+abbrev pub no_surface : List DevicePicture → ℕ → Objection
+no_surface ds device =
+    (not (device == 0) && not (is_some (picture_on ds device)), NoDevice device)
+
+abbrev pub bad_device_size : ℕ → ℕ → Objection
+bad_device_size w h = (is_bad_device_size w h, BadSize)
+
 -- there is no such window, or it is the desktop, which stays as it is
 abbrev pub unchangeable : List Win → ℕ → List Objection
 unchangeable ws h = no_window ws h ∷ (h == 1, Desktop) ∷ []
@@ -125,6 +143,7 @@ objections classes ws (ToTop h) = unchangeable ws h
 objections classes ws (ToBottom h) = unchangeable ws h
 objections classes ws (SetClass h class) = unchangeable ws h ++ no_class classes class ∷ []
 objections classes ws (SetTrans h trans) = unchangeable ws h
+objections classes ws (SetMemdev h memdev) = no_window ws h ∷ []
 objections classes ws (SetValue h index value) = no_window ws h ∷ no_value index ∷ []
 objections classes ws (Send h message argument) = no_window ws h ∷ []
 objections classes ws (Invalidate h) = no_window ws h ∷ []
@@ -135,14 +154,15 @@ objections classes ws Exec1 = []
 objections classes ws Scan = []
 objections classes ws call = []
 
--- what may be held against a call on a context, where there are so many fonts and these windows,
--- and its task has this
-abbrev pub context_objections : ℕ → List Win → Owned → Call → List Objection
-context_objections fonts ws own (Select h) = no_window ws h ∷ []
-context_objections fonts ws own (Font font) = unknown_font fonts font ∷ []
-context_objections fonts ws own Save = (length own.saved == 8, ContextDepth) ∷ []
-context_objections fonts ws own Restore = (length own.saved == 0, NoContext) ∷ []
-context_objections fonts ws own call = []
+-- what may be held against a call on a context, where there are so many fonts, these windows and
+-- these devices, and its task has this
+abbrev pub context_objections : ℕ → List Win → List DevicePicture → Owned → Call → List Objection
+context_objections fonts ws ds own (Select h) = no_window ws h ∷ []
+context_objections fonts ws ds own (DevSelect device) = no_surface ds device ∷ []
+context_objections fonts ws ds own (Font font) = unknown_font fonts font ∷ []
+context_objections fonts ws ds own Save = (length own.saved == 8, ContextDepth) ∷ []
+context_objections fonts ws ds own Restore = (length own.saved == 0, NoContext) ∷ []
+context_objections fonts ws ds own call = []
 
 -- what a shape names that isn't there
 abbrev pub shape_objections : Assets → Context → Shape → List Objection
@@ -152,24 +172,39 @@ shape_objections assets c (shape.Text x y string) =
     unknown_text (length assets.strings) string ∷ unknown_font (length assets.fonts) c.font ∷ []
 shape_objections assets c shape = []
 
--- what may be held against drawing a shape with a context: what it names, and then the window that
--- the context selects
-abbrev pub stroke_objections : Assets → List Win → Context → Shape → List Objection
-stroke_objections assets ws c shape = shape_objections assets c shape ++ no_window ws c.window ∷ []
+-- where a context draws isn't there: the device that it selects, or the window, while it selects
+-- no device
+abbrev pub no_ground : List Win → List DevicePicture → Context → Objection
+no_ground ws ds c = if c.device == 0 then no_window ws c.window else no_device ds c.device
 
--- what may be held against a call that isn't on a context: of a shape, if it draws one
-abbrev pub other_objections : Setup → State → ℕ → Option Shape → Call → List Objection
+-- what may be held against a new device
+abbrev pub making_objections : List DevicePicture → ℕ → ℕ → List Objection
+making_objections ds w h = bad_device_size w h ∷ (nat_le 16 (length ds), TooManyDevices) ∷ []
+
+-- what may be held against work with a context: what it names, and then where it draws
+abbrev pub work_objections : Assets → List Win → List DevicePicture → Context → Work
+    → List Objection
+work_objections assets ws ds c (Draw shape) =
+    shape_objections assets c shape ++ no_ground ws ds c ∷ []
+work_objections assets ws ds c (Copy device x y) =
+    no_device ds device ∷ no_window ws c.window ∷ []
+work_objections assets ws ds c (Make w h) = making_objections ds w h
+work_objections assets ws ds c (Discard device) = no_device ds device ∷ []
+
+-- what may be held against a call that isn't on a context: of work, if it asks for any
+abbrev pub other_objections : Setup → State → ℕ → Option Work → Call → List Objection
 other_objections setup s actor None call =
     objections (length setup.assets.classes) s.windows call
-other_objections setup s actor (Some shape) call =
-    stroke_objections setup.assets s.windows (owned_by s.contexts actor).context shape
+other_objections setup s actor (Some work) call =
+    work_objections setup.assets s.windows s.devices.live (owned_by s.contexts actor).context work
 
 -- what may be held against a call of an actor, in order
 abbrev pub objections_to : Setup → State → ℕ → Call → List Objection
 objections_to setup s actor call =
     if is_context_call call
-    then context_objections (length setup.assets.fonts) s.windows (owned_by s.contexts actor) call
-    else other_objections setup s actor (shape_of call) call
+    then context_objections (length setup.assets.fonts) s.windows s.devices.live
+    (owned_by s.contexts actor) call
+    else other_objections setup s actor (work_of call) call
 
 -- the first that holds
 abbrev pub refusal_of : List Objection → Option Refusal
@@ -237,6 +272,8 @@ effect setup s (SetClass h class) =
     changed setup s h (window_changed h (with_class class) s.windows)
 effect setup s (SetTrans h trans) =
     changed setup s h (window_changed h (with_trans trans) s.windows)
+effect setup s (SetMemdev h memdev) =
+    with_windows s (window_changed h (with_memdev memdev) s.windows)
 effect setup s (SetValue h index value) =
     with_windows s (with_value (screen_of setup) h index value s.windows)
 effect setup s (Send h message argument) =
@@ -255,6 +292,8 @@ effect setup s call = record { state = s; reply = Done }
 -- what a task has after a call on its context that isn't refused
 abbrev pub context_after : Owned → Call → Owned
 context_after own (Select h) = with_context own (record own.context { window = h })
+context_after own (DevSelect device) =
+    with_context own (record own.context { device = device })
 context_after own (Colour c) = with_context own (record own.context { colour = c })
 context_after own (BkColour c) = with_context own (record own.context { bk = c })
 context_after own (TextMode trans) = with_context own (record own.context { trans_text = trans })
@@ -268,26 +307,28 @@ abbrev pub with_own : State → ℕ → Owned → Step
 with_own s task own =
     record { state = record s { contexts = with_owned s.contexts task own }; reply = Done }
 
--- a shape is drawn with a context
-abbrev pub stroke_done : Setup → State → Context → Shape → Step
-stroke_done setup s c shape =
+-- work is done with a context
+abbrev pub work_done : Setup → State → Context → Work → Step
+work_done setup s c work =
+    let now = surfaces_after setup.assets (looks_of setup s.windows) s.windows c work
+    (record { shown = latest s; devices = s.devices }) in
     record {
-      state = with_latest s (after_stroke setup s.windows c shape (latest s));
-      reply = Done;
+      state = record (with_latest s now.shown) { devices = now.devices };
+      reply = reply_to s.devices work;
     }
 
--- what a call does that isn't on a context and isn't refused: it draws a shape, if it is one's
-abbrev pub other_effect : Setup → State → ℕ → Option Shape → Call → Step
+-- what a call does that isn't on a context and isn't refused: work, if it asks for any
+abbrev pub other_effect : Setup → State → ℕ → Option Work → Call → Step
 other_effect setup s actor None call = effect setup s call
-other_effect setup s actor (Some shape) call =
-    stroke_done setup s (owned_by s.contexts actor).context shape
+other_effect setup s actor (Some work) call =
+    work_done setup s (owned_by s.contexts actor).context work
 
 -- what a call of an actor does that isn't refused
 abbrev pub effect_of : Setup → State → ℕ → Call → Step
 effect_of setup s actor call =
     if is_context_call call
     then with_own s actor (context_after (owned_by s.contexts actor) call)
-    else other_effect setup s actor (shape_of call) call
+    else other_effect setup s actor (work_of call) call
 
 -- ---- steps
 
@@ -309,4 +350,10 @@ abbrev pub is_refused : Reply → Bool
 is_refused Done = false
 is_refused (Handle handle) = false
 is_refused (Jobs count) = false
+is_refused (Device device) = false
 is_refused (Refused refusal) = true
+
+-- whether it tells that there is no memory
+abbrev pub is_want_of_memory : Reply → Bool
+is_want_of_memory (Refused Memory) = true
+is_want_of_memory reply = false

@@ -30,6 +30,9 @@ with_class class w = record w { class = class }
 abbrev pub with_trans : Bool → Win → Win
 with_trans trans w = record w { trans = trans }
 
+abbrev pub with_memdev : Bool → Win → Win
+with_memdev memdev w = record w { memdev = memdev }
+
 -- ---- what is as it was
 
 -- whether the second window is the first one in the same place of its parent, of the same sides and

@@ -6,6 +6,7 @@ ghost use Rattle.gui_core.specs.Changes.{context_call};
 ghost use Rattle.gui_core.specs.Refusals.{Alters};
 ghost use Rattle.gui_core.specs.States.{refusal_of, context_objections, context_after};
 
+use crate::surfaces::{SCREEN, Surfaces};
 use crate::windows::Windows;
 use calls::Refusal;
 use context::{ContextDepth, Contexts, NoContext};
@@ -15,6 +16,7 @@ use gfx_base::Colour;
 #[derive(Clone, Copy)]
 pub enum ContextChange {
     Select { h: u32 },
+    Device { device: u32 },
     Colour { c: Colour },
     BkColour { c: Colour },
     TextMode { trans: bool },
@@ -28,7 +30,7 @@ fn select(contexts: &mut Contexts, task: u16, h: u32, windows: &Windows) -> Resu
     requires { (1 ≤ task) × (task ≤ 16) }
     ensures { let call = context_call (ContextChange.Select h) in
         let own = owned_by contexts.old task in
-        Alters result (refusal_of (context_objections 0 windows.now.windows own call))
+        Alters result (refusal_of (context_objections 0 windows.now.windows [] own call))
         (context_after own call) task contexts.old contexts.new }
 {
     if !windows.has(h) {
@@ -38,12 +40,33 @@ fn select(contexts: &mut Contexts, task: u16, h: u32, windows: &Windows) -> Resu
     Ok(())
 }
 
+/// Selects a device that lives, or the screen.
+fn select_device(
+    contexts: &mut Contexts,
+    task: u16,
+    device: u32,
+    surfaces: &Surfaces,
+) -> Result<(), Refusal>
+    requires { (1 ≤ task) × (task ≤ 16) }
+    ensures { let call = context_call (ContextChange.Device device) in
+        let own = owned_by contexts.old task in
+        Alters result
+        (refusal_of (context_objections 0 [] surfaces.now.devices.live own call))
+        (context_after own call) task contexts.old contexts.new }
+{
+    if device != SCREEN && !surfaces.has_device(device) {
+        return Err(Refusal::NoDevice(device));
+    }
+    contexts.get_mut(task).device = device;
+    Ok(())
+}
+
 /// Gives a task's context a font, where there are so many.
 fn set_font(contexts: &mut Contexts, task: u16, font: u8, fonts: usize) -> Result<(), Refusal>
     requires { (1 ≤ task) × (task ≤ 16) }
     ensures { let call = context_call (ContextChange.Font font) in
         let own = owned_by contexts.old task in
-        Alters result (refusal_of (context_objections fonts [] own call))
+        Alters result (refusal_of (context_objections fonts [] [] own call))
         (context_after own call) task contexts.old contexts.new }
 {
     if usize::from(font) >= fonts {
@@ -58,7 +81,7 @@ fn save(contexts: &mut Contexts, task: u16) -> Result<(), Refusal>
     requires { (1 ≤ task) × (task ≤ 16) }
     ensures { let call = context_call ContextChange.Save in
         let own = owned_by contexts.old task in
-        Alters result (refusal_of (context_objections 0 [] own call))
+        Alters result (refusal_of (context_objections 0 [] [] own call))
         (context_after own call) task contexts.old contexts.new }
 {
     match contexts.save(task) {
@@ -72,7 +95,7 @@ fn restore(contexts: &mut Contexts, task: u16) -> Result<(), Refusal>
     requires { (1 ≤ task) × (task ≤ 16) }
     ensures { let call = context_call ContextChange.Restore in
         let own = owned_by contexts.old task in
-        Alters result (refusal_of (context_objections 0 [] own call))
+        Alters result (refusal_of (context_objections 0 [] [] own call))
         (context_after own call) task contexts.old contexts.new }
 {
     match contexts.restore(task) {
@@ -87,16 +110,19 @@ pub fn change_context(
     task: u16,
     change: ContextChange,
     windows: &Windows,
+    surfaces: &Surfaces,
     fonts: usize,
 ) -> Result<(), Refusal>
     requires { (1 ≤ task) × (task ≤ 16) }
     ensures { let call = context_call change in
         let own = owned_by contexts.old task in
-        Alters result (refusal_of (context_objections fonts windows.now.windows own call))
+        Alters result (refusal_of
+        (context_objections fonts windows.now.windows surfaces.now.devices.live own call))
         (context_after own call) task contexts.old contexts.new }
 {
     match change {
         ContextChange::Select { h } => select(contexts, task, h, windows),
+        ContextChange::Device { device } => select_device(contexts, task, device, surfaces),
         ContextChange::Colour { c } => {
             contexts.get_mut(task).colour = c;
             Ok(())

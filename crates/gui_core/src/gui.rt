@@ -1,15 +1,14 @@
-ghost use Rattle.std.specs.Prelude.{◌≡◌, ◌+◌, ◌<◌, ◌≤◌, true, length, IfOk};
+ghost use Rattle.std.specs.Prelude.{◌≡◌, ◌+◌, ◌<◌, ◌≤◌, true, false, length, IfOk, OnErr};
 ghost use Rattle.std.specs.List.{AllByRecursion};
 ghost use Rattle.paint_ops.specs.Soundness.{IsSound};
 ghost use Rattle.calls.specs.Actors.{fits};
 
 use crate::change::Change;
 use crate::contexts::{ContextChange, change_context};
-use crate::drawing::draw;
+use crate::surfaces::Surfaces;
 use crate::windows::{NewWindow, Windows};
 use calls::{Call, Config, Refusal, Reply};
 use context::Contexts;
-use exec_paint::job;
 use frame::Frame;
 use gfx_base::{Memory, Rect};
 use invalidate::first_invalid;
@@ -26,9 +25,7 @@ pub struct Gui {
     assets: Assets,
     windows: Windows,
     contexts: Contexts,
-    shown: Frame,
-    /// What windows compose in before they show. None does so far, so one point is enough.
-    device: Frame,
+    surfaces: Surfaces,
     made: u32,
     refused: u32,
 }
@@ -43,8 +40,9 @@ impl Model for Gui {
       state = record {
         windows = g.windows.windows;
         handles = g.windows.handles;
-        shown = g.shown.picture;
+        shown = g.surfaces.shown;
         contexts = g.contexts;
+        devices = g.surfaces.devices;
       };
       made = g.made;
       refused = g.refused;
@@ -55,8 +53,9 @@ impl Model for Gui {
       state = record {
         windows = g.windows.windows;
         handles = g.windows.handles;
-        shown = g.shown.picture;
+        shown = g.surfaces.shown;
         contexts = g.contexts;
+        devices = g.surfaces.devices;
       };
       made = g.made;
       refused = g.refused;
@@ -110,22 +109,22 @@ impl Gui {
     ghost use Rattle.invalidate.specs.Invalidation.{is_invalid};
     ghost use Rattle.calls.specs.declared.call.Call.TheVariants.{Create};
     ghost use Rattle.gui_core.specs.Jobs.{jobs_of};
+    ghost use Rattle.calls.specs.declared.call.Call.TheVariants.{DevCreate, DevDelete, DevCopy, SetMemdev};
     ghost use Rattle.gui_core.specs.Changes.{call_for, context_call, stroke_call};
-    ghost use Rattle.gui_core.specs.States.{after_job, after_jobs, is_refused};
-    ghost use Rattle.gui_core.specs.Machines.{IsConfig, Takes, TakesAlike, Answers, starting};
+    ghost use Rattle.gui_core.specs.States.{after_job, after_jobs, is_refused, is_want_of_memory};
+    ghost use Rattle.gui_core.specs.Machines.{IsConfig, Takes, TakesAlike, Answers, IsUnmade, starting};
 
     /// The desktop alone, which waits to be painted, on a black picture. What windows paint with is
     /// sound and has a class 0, in whose place comes the desktop's: the configuration's colour
     /// alone. The screen has from 1 by 1 to 1,024 by 768 points. Refused for want of memory alone;
-    /// no later call takes any.
+    /// no later call takes any but the one that makes a device.
     pub fn open_alone(alloc: Global, assets: Assets, config: Config) -> Result<Gui, Memory>
         requires config { IsConfig config }
         requires assets { IsSound assets }
         requires desktop { 1 ≤ length assets.classes }
         ensures { IfOk result (λ gui. gui ≡ starting assets config) }
     {
-        let shown = Frame::new(alloc, config.w, config.h)?;
-        let device = Frame::new(alloc, 1, 1)?;
+        let surfaces = Surfaces::open(alloc, config.w, config.h)?;
         let windows = Windows::open(alloc, config.w, config.h)?;
         let assets = with_desktop(alloc, assets, &config);
         let contexts = Contexts::new();
@@ -134,8 +133,7 @@ impl Gui {
             assets,
             windows,
             contexts,
-            shown,
-            device,
+            surfaces,
             made: 0,
             refused: 0,
         })
@@ -145,7 +143,7 @@ impl Gui {
     pub fn shown(&self) -> &Frame
         ensures { result.now.picture ≡ self.now.state.shown }
     {
-        &self.shown
+        self.surfaces.shown()
     }
 
     /// Puts the windows, from back to front, into `out`.
@@ -181,11 +179,11 @@ impl Gui {
             assets,
             windows,
             contexts: _,
-            mut shown,
-            device: _,
+            surfaces,
             made: _,
             refused: _,
         } = self;
+        let mut shown = surfaces.into_shown();
         paint_whole(windows.stack(), &assets, &mut shown);
         shown
     }
@@ -202,13 +200,8 @@ impl Gui {
         requires { position is_invalid self.old.state.windows ≡ Some which }
         ensures { self.new ≡ record self.old { state = after_job self.old.setup self.old.state } }
     {
-        let _ = job(
-            self.windows.stack(),
-            which,
-            &self.assets,
-            &mut self.device,
-            &mut self.shown,
-        );
+        self.surfaces
+            .paint(self.windows.stack(), which, &self.assets);
         self.windows.make_valid(which);
     }
 
@@ -266,6 +259,12 @@ impl Gui {
         )
     }
 
+    fn set_memdev(&mut self, h: u32, memdev: bool) -> Reply
+        ensures { TakesAlike self.old (SetMemdev h memdev) self.new result }
+    {
+        answered(self.windows.set_memdev(h, memdev))
+    }
+
     fn set_value(&mut self, h: u32, index: u8, value: i16) -> Reply
         ensures { TakesAlike self.old (Call.SetValue h index value) self.new result }
     {
@@ -317,6 +316,7 @@ impl Gui {
             task,
             change,
             &self.windows,
+            &self.surfaces,
             font_count(&self.assets),
         ))
     }
@@ -325,22 +325,63 @@ impl Gui {
         requires { (1 ≤ task) × (task ≤ 16) }
         ensures { Takes self.old task (stroke_call shape.now) self.new result }
     {
-        answered(draw(
-            self.windows.stack(),
-            self.contexts.get(task),
-            shape,
-            &self.assets,
-            &mut self.shown,
-        ))
+        answered(
+            self.surfaces.draw(
+                self.windows.stack(),
+                self.contexts.get(task),
+                shape,
+                &self.assets,
+            ),
+        )
     }
 
-    /// Makes a call of an actor that is counted already.
-    fn take(&mut self, actor: u16, call: &Call) -> Reply
+    fn copy_device(&mut self, actor: u16, device: u32, x: i16, y: i16) -> Reply
+        requires { (1 ≤ actor) × (actor ≤ 16) }
+        ensures { Takes self.old actor (DevCopy device x y) self.new result }
+    {
+        answered(
+            self.surfaces.copy(
+                self.windows.stack(),
+                self.contexts.get(actor),
+                device,
+                x,
+                y,
+                &self.assets,
+            ),
+        )
+    }
+
+    fn delete_device(&mut self, task: u16, device: u32) -> Reply
+        ensures { Takes self.old task (DevDelete device) self.new result }
+    {
+        answered(self.surfaces.discard(device))
+    }
+
+    /// Makes a device of the colour that is behind the task's text.
+    fn create_device(&mut self, alloc: Global, task: u16, w: u16, h: u16) -> Result<Reply, Memory>
+        requires task { (1 ≤ task) × (task ≤ 16) }
+        requires handles { self.old.state.devices.handles < self.old.made }
+        ensures made { IfOk result
+            (λ reply. Takes self.old task (DevCreate w h) self.new reply) }
+        ensures unmade { OnErr result (IsUnmade self.old task (DevCreate w h) self.new) }
+    {
+        let colour = self.contexts.get(task).bk;
+        match self.surfaces.make(alloc, w, h, colour) {
+            Ok(device) => Ok(Reply::Device(device)),
+            Err(Refusal::Memory) => Err(Memory),
+            Err(refusal) => Ok(Reply::Refused(refusal)),
+        }
+    }
+
+    /// Makes a call of an actor that is counted already. Without memory for a device nothing changes.
+    fn take(&mut self, alloc: Global, actor: u16, call: &Call) -> Result<Reply, Memory>
         requires actor { (1 ≤ actor) × (actor ≤ 16) }
         requires handles { self.old.state.handles ≤ self.old.made }
-        ensures { Takes self.old actor call.now self.new result }
+        requires devices { self.old.state.devices.handles < self.old.made }
+        ensures made { IfOk result (λ reply. Takes self.old actor call.now self.new reply) }
+        ensures unmade { OnErr result (IsUnmade self.old actor call.now self.new) }
     {
-        match *call {
+        Ok(match *call {
             Call::Create {
                 parent,
                 x,
@@ -366,6 +407,7 @@ impl Gui {
             Call::ToBottom { h } => self.change(h, Change::ToBottom),
             Call::SetClass { h, class } => self.change(h, Change::SetClass { class }),
             Call::SetTrans { h, trans } => self.change(h, Change::SetTrans { trans }),
+            Call::SetMemdev { h, memdev } => self.set_memdev(h, memdev),
             Call::SetValue { h, index, value } => self.set_value(h, index, value),
             Call::Send {
                 h,
@@ -373,6 +415,9 @@ impl Gui {
                 argument,
             } => self.send(h, message, argument),
             Call::Select { h } => self.change_context(actor, ContextChange::Select { h }),
+            Call::DevSelect { device } => {
+                self.change_context(actor, ContextChange::Device { device })
+            }
             Call::Colour { c } => self.change_context(actor, ContextChange::Colour { c }),
             Call::BkColour { c } => self.change_context(actor, ContextChange::BkColour { c }),
             Call::TextMode { trans } => {
@@ -386,6 +431,9 @@ impl Gui {
             Call::Line { x0, y0, x1, y1 } => self.stroke(actor, &Shape::Line(x0, y0, x1, y1)),
             Call::Bitmap { bitmap, x, y } => self.stroke(actor, &Shape::Bitmap(bitmap, x, y)),
             Call::Text { x, y, string } => self.stroke(actor, &Shape::Text(x, y, string)),
+            Call::DevCreate { w, h } => self.create_device(alloc, actor, w, h)?,
+            Call::DevDelete { device } => self.delete_device(actor, device),
+            Call::DevCopy { device, x, y } => self.copy_device(actor, device, x, y),
             Call::Invalidate { h } => self.invalidate(h),
             Call::InvalidateRect { h, x0, y0, x1, y1 } => {
                 self.invalidate_rect(h, &local_rect(x0, y0, x1, y1))
@@ -396,24 +444,36 @@ impl Gui {
             Call::Exec => Reply::Jobs(self.exec()),
             Call::Exec1 => Reply::Jobs(self.exec1()),
             Call::Scan => Reply::Done,
-        }
+        })
     }
 
     /// Makes a call of an actor who may make it, and gives its reply. Fewer calls were made than
-    /// the core was opened for. A refused call changes nothing but the number of refused calls. No
-    /// call of today takes memory, and none gives bytes into `_room`.
-    pub fn apply(&mut self, _alloc: Global, actor: u16, call: &Call, _room: &mut Vec<u8>) -> Reply
+    /// the core was opened for. A refused call changes nothing but the number of refused calls.
+    /// Making a device takes memory. Where there is none for it, though nothing else is held
+    /// against it, that is the answer, and the call isn't made: nothing at all changes. No other
+    /// call takes memory, and none of today gives bytes into `_room`.
+    pub fn apply(&mut self, alloc: Global, actor: u16, call: &Call, _room: &mut Vec<u8>) -> Reply
         requires fits { fits call.now actor ≡ true }
         requires room { self.old.made < self.old.setup.config.calls }
-        ensures answers { Answers self.old actor call.now self.new result }
+        ensures answers { is_want_of_memory result ≡ false
+            → Answers self.old actor call.now self.new result }
+        ensures unmade { is_want_of_memory result ≡ true
+            → IsUnmade self.old actor call.now self.new }
         ensures bytes { _room.new ≡ _room.old }
     {
         self.made += 1;
-        let reply = self.take(actor, call);
-        if let Reply::Refused(_) = reply {
-            self.refused += 1;
+        match self.take(alloc, actor, call) {
+            Ok(reply) => {
+                if let Reply::Refused(_) = reply {
+                    self.refused += 1;
+                }
+                reply
+            }
+            Err(Memory) => {
+                self.made -= 1;
+                Reply::Refused(Refusal::Memory)
+            }
         }
-        reply
     }
 }
 

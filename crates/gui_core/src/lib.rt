@@ -1,14 +1,14 @@
-//! The core: the windows, the picture that is shown, what each task draws with, and what each call
-//! does to them. All memory is taken at opening.
+//! The core: the windows, the picture that is shown, what each task draws with, the devices, and
+//! what each call does to them. After opening, only a device that is made takes memory.
 #![tactic(auto)]
 
 mod change;
 mod contexts;
-mod drawing;
 mod gui;
 mod jobs;
 pub mod laws;
 mod refusals;
+mod surfaces;
 mod windows;
 
 pub use gui::Gui;

@@ -8,13 +8,13 @@ ghost use Rattle.scene.specs.Clips.{clip_in};
 ghost use Rattle.scene.specs.Looks.{screen_with};
 ghost use Rattle.scene.specs.Places.{AreSingle, window_of};
 ghost use Rattle.scene.specs.Damage.{invalidated, areas_invalidated};
-ghost use Rattle.scene.specs.Families.{new_window, desktop_with, on_top_of};
+ghost use Rattle.scene.specs.Families.{new_window, desktop_with, on_top_of, window_changed};
 ghost use Rattle.scene.specs.Stacks.{IsStack, AreGiven, desktop_screen};
 ghost use Rattle.invalidate.specs.Invalidation.{is_invalid, wholly_invalidated, on_screen, IsLocal};
-ghost use Rattle.calls.specs.declared.call.Call.TheVariants.{Create, SetValue, Send, Invalidate};
+ghost use Rattle.calls.specs.declared.call.Call.TheVariants.{Create, SetMemdev, SetValue, Send, Invalidate};
 ghost use Rattle.paint_ops.specs.Soundness.{IsSound};
 ghost use Rattle.messages.specs.Delivery.{rest_of, with_new_values, delivered};
-ghost use Rattle.gui_core.specs.Windows.{is_as_it_was, are_as_they_were, clip_at, listed, after_change, with_value, with_message, with_invalid_window, with_invalid_rect, with_invalid_area};
+ghost use Rattle.gui_core.specs.Windows.{is_as_it_was, are_as_they_were, clip_at, listed, after_change, with_memdev, with_value, with_message, with_invalid_window, with_invalid_rect, with_invalid_area};
 ghost use Rattle.gui_core.specs.Jobs.{windows_after_job};
 ghost use Rattle.gui_core.specs.Changes.{call_for, list_after};
 ghost use Rattle.gui_core.specs.Refusals.{Performs, Creates};
@@ -154,6 +154,24 @@ fn invalidate_rect_at(stack: &mut Stack, at: usize, local: &Rect, screen: &Rect)
         (on_screen stack.old.items w local.now) w) }
 {
     rect(stack.as_mut_slice(), at, local, screen);
+}
+
+/// Lets the window at a place be composed aside before it shows, or no longer.
+fn put_memdev(windows: &mut [Win], at: usize, memdev: bool)
+    requires { at < length windows.old }
+    ensures { (w : Window) → slice_get windows.old at ≡ Some w
+        → windows.new ≡ slice_set windows.old at (with_memdev memdev w) }
+{
+    windows[at].memdev = memdev;
+}
+
+/// The same in the list of all windows.
+fn put_memdev_at(stack: &mut Stack, at: usize, memdev: bool)
+    requires { at < length stack.old.items }
+    ensures { (w : Window) → slice_get stack.old.items at ≡ Some w
+        → stack.new.items ≡ slice_set stack.old.items at (with_memdev memdev w) }
+{
+    put_memdev(stack.as_mut_slice(), at, memdev);
 }
 
 /// Values of which one is another number.
@@ -347,6 +365,20 @@ impl Windows {
             before,
             screen,
         );
+        Ok(())
+    }
+
+    /// Lets a window be composed aside before it shows, or no longer.
+    pub fn set_memdev(&mut self, h: u32, memdev: bool) -> Result<(), Refusal>
+        ensures { Performs result
+            (refusal_of (objections 0 self.old.windows (SetMemdev h memdev)))
+            (window_changed h (with_memdev memdev) self.old.windows) self.old self.new }
+    {
+        let Some(at) = place_of(&self.stack, h) else {
+            return Err(Refusal::NoWindow(h));
+        };
+        put_memdev_at(&mut self.stack, at, memdev);
+        self.tree.put(&self.stack[at]);
         Ok(())
     }
 

@@ -1,18 +1,21 @@
 //! Paints the windows of a grid that covers the screen by a job each, again and again, so that
-//! `bench/job` can time it. The words are the screen's sides, how many windows there are, and how
-//! often they are painted. With no window all rows are filled by whole spans.
+//! `bench/job` can time it. The words are the screen's sides, how many windows there are, how often
+//! they are painted, and how, if not plainly: `busy` windows fill themselves twenty times, and
+//! `composed` ones do so by way of a memory device. With no window all rows are filled by whole
+//! spans.
 #![tactic(auto)]
 
 ghost use Rattle.std.specs.Prelude.{◌≡◌, ◌≤◌, length, IfSome};
 ghost use Rattle.std.specs.List.{AllByRecursion};
-ghost use Rattle.paint_ops.specs.Soundness.{IsSound};
+ghost use Rattle.paint_ops.specs.Kinds.{Assets as Content};
+ghost use Rattle.paint_ops.specs.Soundness.{IsNum, IsOperation, IsSound};
 ghost use Rattle.scene.specs.Looks.{IsPaintable};
 ghost use Rattle.scene.specs.Places.{AreSingle};
 
 use exec_paint::job;
 use frame::Frame;
 use gfx_base::Colour;
-use paint_ops::Assets;
+use paint_ops::{Assets, Base, Num, Op};
 use samples::{are_paintable, are_single, assets_of, class};
 use scene::{Stack, Win, screen};
 use std::alloc::Global;
@@ -23,17 +26,54 @@ fn blue() -> Colour {
     Colour::new(0xFF).unwrap_or_default()
 }
 
-/// Assets of two classes: the desktop's, and a blue one.
+/// All points of a window.
+fn whole() -> Op
+    ensures { (assets : Content) → IsOperation assets result }
+{
+    let first = Num {
+        base: Base::Zero,
+        plus: 0,
+    };
+    let right = Num {
+        base: Base::Width,
+        plus: -1,
+    };
+    let bottom = Num {
+        base: Base::Height,
+        plus: -1,
+    };
+    Op::Fill(first, first, right, bottom, blue())
+}
+
+/// Assets of three classes: the desktop's, a blue one, and one that is made blue twenty times more.
 fn assets(alloc: Global) -> Option<Assets>
     ensures { IfSome result IsSound }
 {
     let black = class(alloc, Some(Colour::default()), &[], &[])?;
-    let blue = class(alloc, Some(blue()), &[], &[])?;
-    assets_of(alloc, [black, blue])
+    let plain = class(alloc, Some(blue()), &[], &[])?;
+    let busy = class(alloc, Some(blue()), &[whole(); 20], &[])?;
+    assets_of(alloc, [black, plain, busy])
+}
+
+/// How the windows of a grid are painted.
+#[derive(Clone, Copy)]
+struct Manner {
+    class: u8,
+    memdev: bool,
+}
+
+fn manner_of(word: Option<&str>) -> Option<Manner> {
+    let (class, memdev) = match word {
+        None => (1, false),
+        Some("busy") => (2, false),
+        Some("composed") => (2, true),
+        Some(_) => return None,
+    };
+    Some(Manner { class, memdev })
 }
 
 /// The desktop, and so many windows on it, which lie side by side in rows.
-fn grid(w: u16, h: u16, windows: u16) -> Stack {
+fn grid(w: u16, h: u16, windows: u16, manner: Manner) -> Stack {
     let across = match windows {
         0..=1 => 1,
         2..=16 => 4,
@@ -56,7 +96,8 @@ fn grid(w: u16, h: u16, windows: u16) -> Stack {
             y: i16::try_from((i / across).wrapping_mul(h / across)).unwrap_or(0),
             w: w / across,
             h: h / across,
-            class: 1,
+            class: manner.class,
+            memdev: manner.memdev,
             invalid: Some(screen(w, h)),
             ..desktop
         };
@@ -71,6 +112,10 @@ fn paint(stack: &[Win], assets: &Assets, device: &mut Frame, target: &mut Frame)
     requires few { length stack.now ≤ 256 }
     requires windows { AllByRecursion (IsPaintable assets.now) stack.now }
     requires single { AreSingle stack.now }
+    requires sides { (device.old.picture.width ≡ target.old.picture.width)
+        × (device.old.picture.height ≡ target.old.picture.height) }
+    ensures sides { (device.new.picture.width ≡ target.new.picture.width)
+        × (device.new.picture.height ≡ target.new.picture.height) }
 {
     for which in 1..stack.len() {
         let _tiles = job(stack, which, assets, device, target);
@@ -80,7 +125,7 @@ fn paint(stack: &[Win], assets: &Assets, device: &mut Frame, target: &mut Frame)
 /// Paints all windows of a grid so often. `None` where memory runs out.
 fn paint_grid(alloc: Global, stack: &[Win], rounds: u32, target: &mut Frame) -> Option<()> {
     let assets = assets(alloc)?;
-    let mut device = Frame::new(alloc, 1, 1).ok()?;
+    let mut device = Frame::new(alloc, target.width(), target.height()).ok()?;
     if 256 < stack.len() || !are_paintable(stack, &assets) || !are_single(stack) {
         return None;
     }
@@ -103,15 +148,15 @@ fn fill(w: u16, h: u16, rounds: u32, target: &mut Frame)
     }
 }
 
-/// Does what the words say, and gives the colour of the first point. `None` where memory runs out
-/// or the words are others.
-fn run(rt: &HostRuntime) -> Option<u32> {
-    let alloc = rt.alloc();
-    let mut words = env::args(rt).ok()?.skip(1);
-    let w = words.next()?.parse::<u16>().ok()?;
-    let h = words.next()?.parse::<u16>().ok()?;
-    let windows = words.next()?.parse::<u16>().ok()?;
-    let rounds = words.next()?.parse::<u32>().ok()?;
+/// Paints so many windows so often on a screen of these sides, and gives the colour of its first
+/// point. `None` where memory runs out or the sides are others than a screen can have.
+fn painted(
+    alloc: Global,
+    (w, h): (u16, u16),
+    windows: u16,
+    rounds: u32,
+    manner: Manner,
+) -> Option<u32> {
     if w == 0 || 1024 < w || h == 0 || 768 < h {
         return None;
     }
@@ -119,9 +164,21 @@ fn run(rt: &HostRuntime) -> Option<u32> {
     if windows == 0 {
         fill(w, h, rounds, &mut target);
     } else {
-        paint_grid(alloc, &grid(w, h, windows), rounds, &mut target)?;
+        paint_grid(alloc, &grid(w, h, windows, manner), rounds, &mut target)?;
     }
     Some(target.row(0).first()?.value())
+}
+
+/// Does what the words say, and gives the colour of the first point. `None` where memory runs out
+/// or the words are others.
+fn run(rt: &HostRuntime) -> Option<u32> {
+    let mut words = env::args(rt).ok()?.skip(1);
+    let w = words.next()?.parse::<u16>().ok()?;
+    let h = words.next()?.parse::<u16>().ok()?;
+    let windows = words.next()?.parse::<u16>().ok()?;
+    let rounds = words.next()?.parse::<u32>().ok()?;
+    let manner = manner_of(words.next().as_deref())?;
+    painted(rt.alloc(), (w, h), windows, rounds, manner)
 }
 
 fn main(rt: HostRuntime) -> ExitCode {

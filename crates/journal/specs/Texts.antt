@@ -5,9 +5,9 @@ use Rattle.spelling.specs.Digits.{hex_colour}
 use Rattle.calls.specs.declared.call.Call.{Call}
 use Rattle.calls.specs.declared.call.Call.TheVariants.{Scan}
 use Rattle.calls.specs.declared.reply.Refusal.{Refusal}
-use Rattle.calls.specs.declared.reply.Refusal.TheVariants.{NoWindow, Desktop, BadSize, TooManyWindows, TooDeep, NoClass, NoValue, NoFont, ContextDepth, NoContext, NoBitmap, NoText}
+use Rattle.calls.specs.declared.reply.Refusal.TheVariants.{NoWindow, Desktop, BadSize, TooManyWindows, TooDeep, NoClass, NoValue, NoFont, ContextDepth, NoContext, NoBitmap, NoText, NoDevice, TooManyDevices, Memory}
 use Rattle.calls.specs.declared.reply.Reply.{Reply}
-use Rattle.calls.specs.declared.reply.Reply.TheVariants.{Done, Handle, Jobs, Refused}
+use Rattle.calls.specs.declared.reply.Reply.TheVariants.{Done, Handle, Jobs, Device, Refused}
 use Rattle.frame.specs.Pictures.{Picture, rows_of}
 
 -- the runs after a point before them: it belongs to the first run if that has its colour
@@ -62,6 +62,9 @@ refusal_text ContextDepth = codes "refused ContextDepth\n"
 refusal_text NoContext = codes "refused NoContext\n"
 refusal_text (NoBitmap bitmap) = codes "refused NoBitmap " ++ decimal bitmap ++ codes "\n"
 refusal_text (NoText string) = codes "refused NoText " ++ decimal string ++ codes "\n"
+refusal_text (NoDevice device) = codes "refused NoDevice " ++ decimal device ++ codes "\n"
+refusal_text TooManyDevices = codes "refused TooManyDevices\n"
+refusal_text Memory = codes "refused Memory\n"
 
 -- the answer where a call is done: a scan's is the shown picture
 abbrev pub done_text : Call → Picture → List ℕ
@@ -73,6 +76,7 @@ abbrev pub reply_text : Call → Reply → Picture → List ℕ
 reply_text call Done shown = done_text call shown
 reply_text call (Handle handle) shown = codes "ok " ++ decimal handle ++ codes "\n"
 reply_text call (Jobs count) shown = codes "ok " ++ decimal count ++ codes "\n"
+reply_text call (Device device) shown = codes "ok " ++ decimal device ++ codes "\n"
 reply_text call (Refused refusal) shown = refusal_text refusal
 
 -- the line after the last answer: how many calls there were, how many of them were refused, how

@@ -116,6 +116,9 @@ fn write_refusal<K: Sink>(out: &mut K, refusal: &Refusal) -> Result<(), SinkFaul
         Refusal::NoContext => out.write(b"refused NoContext\n"),
         Refusal::NoBitmap(bitmap) => write_number(out, b"refused NoBitmap ", *bitmap),
         Refusal::NoText(string) => write_number(out, b"refused NoText ", *string),
+        Refusal::NoDevice(device) => write_number(out, b"refused NoDevice ", *device),
+        Refusal::TooManyDevices => out.write(b"refused TooManyDevices\n"),
+        Refusal::Memory => out.write(b"refused Memory\n"),
     }
 }
 
@@ -145,6 +148,7 @@ pub fn write_reply<K: Sink>(
         Reply::Done => write_done(out, call, shown),
         Reply::Handle(handle) => write_number(out, b"ok ", *handle),
         Reply::Jobs(count) => write_number(out, b"ok ", *count),
+        Reply::Device(device) => write_number(out, b"ok ", *device),
         Reply::Refused(refusal) => write_refusal(out, refusal),
     }
 }

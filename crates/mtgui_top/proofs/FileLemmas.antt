@@ -28,7 +28,8 @@ shows-take verb (Ok finding.Script) file old new h = (h.0, script-take file h.0 
 shows-take verb (Ok finding.NoScript) file old new h = (h.0, (λ script is. h.1 script (take-script file script is)), fault-take file h.0 h.2, h.3)
 shows-take verb (Err stop.Store) file old new h = h
 shows-take verb (Err stop.Sink) file old new h = (h.0, take-text verb file h.0 h.1, h.2)
-shows-take verb (Err stop.Memory) file old new h = h
+shows-take verb (Err stop.Memory) file old new (inl nothing) = inl nothing
+shows-take verb (Err stop.Memory) file old new (inr h) = inr (h.0, script-take file h.0 h.1, h.2)
 
 of_file : (verb : Verb) (r : Result Finding Stop) (files : Option (List File)) (name bytes : List ℕ) (old new : SinkLog) → Gave files name 100663297 bytes → Shows verb r bytes old new → ShowsFile verb r files name old new
 of_file verb r files name bytes old new gave shows =
@@ -38,7 +39,7 @@ ends : (verb : Verb) (r : Result Finding Stop) (name bytes : List ℕ) (before a
 ends verb (Ok what) name bytes before after old new gave shows = of_file verb (Ok what) before.files name bytes old new gave shows
 ends verb (Err stop.Store) name bytes before after old new gave shows = absurd shows
 ends verb (Err stop.Sink) name bytes before after old new gave shows = of_file verb (Err stop.Sink) before.files name bytes old new gave shows
-ends verb (Err stop.Memory) name bytes before after old new gave shows = shows
+ends verb (Err stop.Memory) name bytes before after old new gave shows = inr (of_file verb (Err stop.Memory) before.files name bytes old new gave shows)
 
 pub ends_with : (verb : Verb) (r : Result Finding Stop) (name bytes text : List ℕ) (before after : StoreLog) (old new : SinkLog) → text ≡ bytes → Gave before.files name 100663297 bytes → Shows verb r text old new → CommandEnds verb r name before after old new
 ends_with verb r name bytes text before after old new e gave shows =

@@ -1,7 +1,10 @@
 -- The calls of lines, one after the other.
-use Rattle.std.proofs.Common.{◌≡◌, ℕ, ◌+◌, ◌<◌, ◌≤◌, Bool, true, false, cond, List, [], ◌∷◌, ◌++◌, length, get_or, drop, refl, sym, ap, ◌∙◌, append_assoc, arith}
+use Rattle.std.proofs.Common.{◌≡◌, ℕ, ◌+◌, ◌<◌, ◌≤◌, Bool, true, false, cond, List, [], ◌∷◌, ◌++◌, length, get_or, drop, refl, sym, ap, ◌∙◌, append_assoc, Err, subst, arith}
 use Rattle.std.proofs.Math.Nat.{zero-add}
-use Rattle.std.proofs.lemmas.List.{at_drop_more, at_drop_all}
+use Rattle.std.proofs.lemmas.List.{at_drop_more, at_drop_all, append-nil}
+use Rattle.std.proofs.lemmas.List.Folds.{list_any_at}
+use Rattle.outside.specs.Logs.{SinkLog, Whole}
+use Rattle.outside.proofs.CallerLemmas.{Partly, Partly-broken, Whole-then}
 use Rattle.calls.specs.declared.line.Line.{Line}
 use Rattle.calls.specs.declared.line.Act.TheVariants as act
 use Rattle.calls.specs.declared.line.Line.TheVariants.{Task}
@@ -16,7 +19,10 @@ use Rattle.gui_core.specs.States.{State, opening, state_after}
 use Rattle.gui_core.proofs.CallerLemmas.{painting_moves_nothing}
 use Rattle.gui_core.specs.Promises.{window_calls}
 use Rattle.gui_core.specs.Machines.{Machine, starting}
-use Rattle.mtgui_top.specs.Changes.{may_change}
+use Rattle.mtgui_top.specs.declared.play.Stop.{Stop}
+use Rattle.mtgui_top.specs.declared.play.Stop.TheVariants as stop
+use Rattle.mtgui_top.specs.Outcome.{LineEnds, LinesEnd}
+use Rattle.mtgui_top.specs.Changes.{may_change, asks_for_device}
 use Rattle.mtgui_top.specs.Machines.{calls_at, LineDone, HasRoom}
 use Rattle.mtgui_top.specs.Playing.{state_past, answer_text, refused_at, replies, refused_count, after_lines, summary_of, paint_text}
 
@@ -116,6 +122,24 @@ summary-last setup s now lines i refused windows le counted last is =
     let all : refused ≡ refused_count setup s lines = omega (arith, counted, none) in
     let end : now ≡ after_lines setup s lines = sym (at_drop_all (after_lines setup now) lines i le) ∙ last in
     rw (all, is, end) refl
+
+-- ---- lines that aren't done to their end
+
+-- where the sink failed at a line, or there was no memory for a device
+pub line_left : (e : Stop) (setup : Setup) (s : State) (lines : List Line) (i : ℕ) (line : Line) (m n : Machine) (a b c : SinkLog) → line ≡ get_or lines i line → i < length lines → m.setup ≡ setup
+    → Partly a b (replies setup m.state (drop i lines) ++ summary_of setup s lines) (replies setup s lines ++ summary_of setup s lines) → LineEnds (Err e) m line n b c → LinesEnd (Err e) setup s lines a c
+line_left stop.Store setup s lines i line m n a b c at lt same so_far ended = absurd ended
+line_left stop.Sink setup s lines i line m n a b c at lt same so_far ended =
+    Partly-broken a b c _ _ _ _ so_far (replies-step setup m n lines i line (summary_of setup s lines) at lt same ended.0) ended.1
+line_left stop.Memory setup s lines i line m n a b c at lt same so_far ended = (
+  list_any_at asks_for_device lines i line lt (ap asks_for_device (sym at) ∙ ended.0),
+  record {
+    front = so_far.front;
+    rest = replies setup m.state (drop i lines) ++ summary_of setup s lines;
+    parts = sym so_far.joined;
+    written = subst (Whole a c) (append-nil so_far.front) (Whole-then a b c so_far.front [] so_far.written ended.1);
+  },
+)
 
 -- ---- the calls that may change windows
 

@@ -1,27 +1,27 @@
 //! `play FILE` and `paint FILE`: a file is read, and what its script's calls are answered is
 //! written, or the painter's picture of the windows that they leave.
 
-ghost use Rattle.std.specs.Prelude.{◌≡◌, ◌↔◌, ◌⊎◌, ◌+◌, ◌<◌, ◌≤◌, ◌++◌, List, [], ℕ, Ok, Err, length, map, true};
-ghost use Rattle.std.specs.List.{AllByRecursion};
-ghost use Rattle.outside.specs.Logs.{Wrote, FailedAt, Whole};
+ghost use Rattle.std.specs.Prelude.{◌≡◌, ◌↔◌, ◌⊎◌, ◌+◌, ◌<◌, ◌≤◌, List, [], ℕ, Ok, Err, length, map, true};
+ghost use Rattle.std.specs.List.{AllByRecursion, list_any};
+ghost use Rattle.outside.specs.Logs.{FailedAt, Whole};
 ghost use Rattle.outside.specs.Files.{IsFile};
 ghost use Rattle.calls.specs.Lines.{call_count, entries_of, FitsItsTask};
 ghost use Rattle.script.specs.Scripts.{Script, IsScript, IsReady};
 ghost use Rattle.gui_core.specs.States.{state_after};
 ghost use Rattle.gui_core.specs.Promises.{window_calls, is_window_call};
-ghost use Rattle.mtgui_top.specs.Changes.{may_change};
+ghost use Rattle.mtgui_top.specs.Changes.{may_change, asks_for_device};
 ghost use Rattle.mtgui_top.specs.Machines.{LineDone, HasRoom, IsFresh};
-ghost use Rattle.mtgui_top.specs.Playing.{answer_text, replies, summary_of, play_text, paint_text, text_for, reason_text};
+ghost use Rattle.mtgui_top.specs.Playing.{play_text, paint_text, reason_text};
 ghost use Rattle.mtgui_top.specs.Promises.{ScansShowPainter};
 ghost use Rattle.mtgui_top.specs.Words.{IsCommand};
-ghost use Rattle.mtgui_top.specs.Outcome.{Shows, ShowsFile, CommandEnds, WritesText, stop_of, IsStatus, IsComplete};
+ghost use Rattle.mtgui_top.specs.Outcome.{Left, Shows, ShowsFile, CommandEnds, WritesScript, LineEnds, LinesEnd, stop_of, IsStatus, IsComplete};
 ghost use Rattle.mtgui_top.specs.declared.command.Verb.{Verb};
 ghost use Rattle.mtgui_top.specs.declared.play.Stop.TheVariants.{Sink, Memory};
 ghost use Rattle.mtgui_top.specs.declared.play.Stop.{Stop};
 ghost use Rattle.mtgui_top.specs.declared.play.Finding.{Finding};
 
 use crate::command::{Verb, command};
-use calls::{Act, Call, Line, call_count};
+use calls::{Act, Call, Line, Refusal, Reply, call_count};
 use gui_core::Gui;
 use journal::{write_fault, write_frame, write_reply, write_summary};
 use outside::{ReadRefused, Sink, SinkFault, Store};
@@ -29,19 +29,18 @@ use scene::Stack;
 use script::{MOST_BYTES, Reason, Script, ScriptRefused, read};
 use std::alloc::Global;
 
-/// Does what a line says and writes what it is answered.
+/// Does what a line says and writes what it is answered. Without memory for a device nothing is
+/// done or written.
 fn perform_line<K: Sink>(
     alloc: Global,
     out: &mut K,
     gui: &mut Gui,
     line: &Line,
     taken: &mut Vec<u8>,
-) -> Result<(), SinkFault>
+) -> Result<(), Stop>
     requires fits { FitsItsTask line.now }
     requires room { HasRoom gui.old line.now }
-    ensures gui { LineDone gui.old line.now gui.new }
-    ensures wrote { Wrote result (K.log out.old) (K.log out.new)
-        (answer_text gui.old.setup gui.old.state line.now) }
+    ensures { LineEnds result gui.old line.now gui.new (K.log out.old) (K.log out.new) }
 {
     match line {
         Line::Task {
@@ -49,25 +48,23 @@ fn perform_line<K: Sink>(
             act: Act::Call(call),
         } => {
             let reply = gui.apply(alloc, *task, call, taken);
-            write_reply(out, call, &reply, taken, gui.shown())
+            if let Reply::Refused(Refusal::Memory) = reply {
+                return Err(Stop::Memory);
+            }
+            write_reply(out, call, &reply, taken, gui.shown())?;
+            Ok(())
         }
         _ => Ok(()),
     }
 }
 
-/// Does what lines say and writes what they are answered, and the summary. The core was opened for
-/// as many calls, and made none so far.
-fn perform<K: Sink>(
-    alloc: Global,
-    out: &mut K,
-    gui: &mut Gui,
-    lines: &[Line],
-) -> Result<(), SinkFault>
+/// Does what lines say and writes what they are answered, and the summary; but ends where there is
+/// no memory for a device. The core was opened for as many calls, and made none so far.
+fn perform<K: Sink>(alloc: Global, out: &mut K, gui: &mut Gui, lines: &[Line]) -> Result<(), Stop>
     requires fits { AllByRecursion FitsItsTask lines.now }
     requires fresh { IsFresh gui.old (call_count lines.now) }
-    ensures { Wrote result (K.log out.old) (K.log out.new)
-        (replies gui.old.setup gui.old.state lines.now
-        ++ summary_of gui.old.setup gui.old.state lines.now) }
+    ensures { LinesEnd result gui.old.setup gui.old.state lines.now (K.log out.old)
+        (K.log out.new) }
 {
     let mut taken = Vec::new(alloc);
     for line in lines {
@@ -76,7 +73,8 @@ fn perform<K: Sink>(
     let mut windows = Stack::new();
     gui.windows(&mut windows);
     let refused = gui.refused() as usize;
-    write_summary(out, call_count(lines), refused, 0, windows.len())
+    write_summary(out, call_count(lines), refused, 0, windows.len())?;
+    Ok(())
 }
 
 /// Why a command wasn't done to its end.
@@ -122,7 +120,7 @@ enum Finding {
 #[tactic(auto, using(crate::proofs::PlayLemmas::few_calls))]
 fn play_script<K: Sink>(alloc: Global, script: Script, out: &mut K) -> Result<(), Stop>
     requires { IsReady script }
-    ensures { WritesText result (K.log out.old) (K.log out.new) (play_text script) }
+    ensures { WritesScript Verb.Play result (K.log out.old) (K.log out.new) script }
 {
     let Script {
         config,
@@ -130,12 +128,11 @@ fn play_script<K: Sink>(alloc: Global, script: Script, out: &mut K) -> Result<()
         lines,
     } = script;
     let mut gui = Gui::open_alone(alloc, assets, config)?;
-    perform(alloc, out, &mut gui, &lines)?;
-    Ok(())
+    perform(alloc, out, &mut gui, &lines)
 }
 
-/// Whether a call may change where windows are, or what they are. The others paint, look, draw, or
-/// change what a task draws with.
+/// Whether a call may change where windows are, or what they are. The others paint, look, draw,
+/// change what a task draws with, or are on devices.
 fn is_window_call(call: &Call) -> bool
     ensures { result ≡ is_window_call call.now }
 {
@@ -156,6 +153,10 @@ fn is_window_call(call: &Call) -> bool
             | Call::Line { .. }
             | Call::Bitmap { .. }
             | Call::Text { .. }
+            | Call::DevCreate { .. }
+            | Call::DevDelete { .. }
+            | Call::DevSelect { .. }
+            | Call::DevCopy { .. }
     )
 }
 
@@ -172,10 +173,11 @@ fn changes_windows(line: &Line) -> bool
     }
 }
 
-/// Makes a line's call, if it asks for one.
+/// Makes a line's call, which may change windows, and so makes no device.
 fn make_call(alloc: Global, gui: &mut Gui, line: &Line, taken: &mut Vec<u8>)
     requires fits { FitsItsTask line.now }
     requires room { HasRoom gui.old line.now }
+    requires windows { may_change line.now ≡ true }
     ensures { LineDone gui.old line.now gui.new }
 {
     if let Line::Task {
@@ -207,7 +209,7 @@ fn make_window_calls(alloc: Global, gui: &mut Gui, lines: &[Line])
 #[tactic(auto, using(crate::proofs::PlayLemmas::few_calls))]
 fn paint_script<K: Sink>(alloc: Global, script: Script, out: &mut K) -> Result<(), Stop>
     requires { IsReady script }
-    ensures { WritesText result (K.log out.old) (K.log out.new) (paint_text script) }
+    ensures { WritesScript Verb.Paint result (K.log out.old) (K.log out.new) script }
 {
     let Script {
         config,
@@ -222,7 +224,7 @@ fn paint_script<K: Sink>(alloc: Global, script: Script, out: &mut K) -> Result<(
 
 fn write_script<K: Sink>(alloc: Global, verb: Verb, script: Script, out: &mut K) -> Result<(), Stop>
     requires { IsReady script }
-    ensures { WritesText result (K.log out.old) (K.log out.new) (text_for verb script) }
+    ensures { WritesScript verb result (K.log out.old) (K.log out.new) script }
 {
     match verb {
         Verb::Play => play_script(alloc, script, out),
@@ -249,7 +251,8 @@ fn reason_name(reason: Reason) -> &'static [u8]
     }
 }
 
-/// Writes what a file's bytes say. All memory is taken before the first byte is written.
+/// Writes what a file's bytes say. All memory but that of devices is taken before the first byte is
+/// written.
 fn show<K: Sink>(alloc: Global, verb: Verb, text: &[u8], out: &mut K) -> Result<Finding, Stop>
     ensures { Shows verb result text.now (K.log out.old) (K.log out.new) }
 {
@@ -284,7 +287,8 @@ fn carry_out<S: Store, K: Sink>(
 /// Does `play FILE` or `paint FILE` and answers the exit status: 0 where the file was read to its
 /// end, is a script, and its text was written; 2 where the words are others; 3 where the file is no
 /// script, and its fault line was written; 4 where the store failed at the file; 5 where the sink
-/// failed; 9 where memory ran out.
+/// failed; 9 where memory ran out. `play` ends at the first device for which there is no memory, and
+/// what it wrote until then stands.
 pub fn plain_words<S: Store, K: Sink>(
     alloc: Global,
     words: &[String],
@@ -317,8 +321,15 @@ pub fn plain_words<S: Store, K: Sink>(
     ensures sink { result ≡ 5 → (verb : Verb) × (name : List ℕ) × IsCommand verb words.now name
         × ShowsFile verb (Err Stop.Sink) (S.log store.old).files name (K.log out.old)
         (K.log out.new) }
-    // Where memory ran out, and at other words, nothing was written.
-    ensures nothing { (result ≡ 9) ⊎ (result ≡ 2) → Whole (K.log out.old) (K.log out.new) [] }
+    // At other words nothing was written.
+    ensures nothing { result ≡ 2 → Whole (K.log out.old) (K.log out.new) [] }
+    // Where memory ran out, nothing was written; or the file is a script that was played and makes
+    // devices, and a front of its play text was written.
+    ensures memory { result ≡ 9 → Whole (K.log out.old) (K.log out.new) []
+        ⊎ ((name : List ℕ) × (file : List ℕ) × (script : Script)
+        × IsCommand Verb.Play words.now name × IsFile (S.log store.old).files name file
+        × IsScript file script × (list_any asks_for_device script.lines ≡ true)
+        × Left (K.log out.old) (K.log out.new) (play_text script)) }
     ensures status { IsStatus result }
     // A told file is answered by what it says, unless a count rose or memory ran out.
     ensures complete { IsComplete result words.now (S.log store.old) (S.log store.new)

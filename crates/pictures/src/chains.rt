@@ -25,7 +25,9 @@ const CALLS: &str = "create 1 5 5 9 6 3/create 3 -1 2 9 9 4/create 8 1 1 3 3 1/c
     send 10 0 3/send 3 1 -2/send 6 0 9/send 9 1 32767/send 8 2 1/send 4 9 1/send 1 0 1/\
     send 99 0 0/select 5/select 99/colour FF8000/bk_colour 0080FF/text_mode trans/font 0/save/\
     restore/fill -3 -3 40 40\n1 invalidate_area 0 0 23 15/\
-    text 2 3 0\n1 bitmap 0 9 4\n1 invalidate_area 0 0 23 15";
+    text 2 3 0\n1 bitmap 0 9 4\n1 invalidate_area 0 0 23 15/set_memdev 2 1/set_memdev 5 1/\
+    dev_create 9 7\n1 dev_select 1\n1 fill -3 2 4 4\n1 dev_copy 1 6 5\n1 dev_delete 1\n\
+    1 invalidate_area 0 0 23 15";
 
 fn add_call(script: &mut String, call: &str) -> Result<(), AllocError> {
     writeln!(script, "1 {call}")

@@ -42,8 +42,8 @@ fn value(numbers: &mut Numbers) -> i32 {
     }
 }
 
-/// Adds a call on how a window of this handle looks: its class, whether it is seen through, and its
-/// values, by themselves or by a message. It may be refused, also for a value past the last.
+/// Adds a call on how a window of this handle looks: its class, whether it is seen through or
+/// composed aside, and its values, by themselves or by a message. It may be refused, also for a value past the last.
 fn add_look(numbers: &mut Numbers, script: &mut String, h: u16) -> Result<(), AllocError> {
     let value = value(numbers);
     match numbers.below(8) {
@@ -51,9 +51,13 @@ fn add_look(numbers: &mut Numbers, script: &mut String, h: u16) -> Result<(), Al
             let class = numbers.below(7);
             writeln!(script, "1 set_class {h} {class}")
         }
-        1 | 2 => {
+        1 => {
             let trans = numbers.below(2);
             writeln!(script, "1 set_trans {h} {trans}")
+        }
+        2 => {
+            let memdev = numbers.below(2);
+            writeln!(script, "1 set_memdev {h} {memdev}")
         }
         3 => {
             let index = numbers.below(17);
@@ -89,10 +93,10 @@ fn add_change(numbers: &mut Numbers, script: &mut String, h: u16) -> Result<(), 
     }
 }
 
-/// Adds a call on what a task draws with, which may be refused.
+/// Adds a call on what a task draws with or on devices, which may be refused.
 fn add_context(numbers: &mut Numbers, script: &mut String, h: u16) -> Result<(), AllocError> {
     let task = if numbers.below(3) == 0 { 2 } else { 1 };
-    match numbers.below(7) {
+    match numbers.below(9) {
         0 => writeln!(script, "{task} select {h}"),
         1 => writeln!(script, "{task} colour FF8000"),
         2 => writeln!(script, "{task} bk_colour 0080FF"),
@@ -102,6 +106,11 @@ fn add_context(numbers: &mut Numbers, script: &mut String, h: u16) -> Result<(),
             writeln!(script, "{task} font {font}")
         }
         5 => writeln!(script, "{task} save"),
+        6 => writeln!(script, "{task} dev_create {h} 3"),
+        7 => {
+            let device = numbers.below(4);
+            writeln!(script, "{task} dev_select {device}")
+        }
         _ => writeln!(script, "{task} restore"),
     }
 }

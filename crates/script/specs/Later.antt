@@ -22,7 +22,7 @@ later_words = codes "display viewer done"
 
 -- second words, after a task
 unfoldable pub later_calls : List ℕ
-later_calls = codes "set_memdev dev_create dev_delete dev_select dev_copy begin end"
+later_calls = codes "begin end"
 
 -- the words after a task are of a call that isn't built
 abbrev pub is_later_call : List (List ℕ) → Bool

@@ -164,6 +164,10 @@ fn call_with(word: Word, args: &mut Args) -> Option<Call>
             h: args.handle()?,
             trans: args.choice(b"0", b"1")?,
         }),
+        Word::SetMemdev => Some(Call::SetMemdev {
+            h: args.handle()?,
+            memdev: args.choice(b"0", b"1")?,
+        }),
         Word::SetValue => Some(Call::SetValue {
             h: args.handle()?,
             index: args.byte()?,
@@ -210,6 +214,21 @@ fn call_with(word: Word, args: &mut Args) -> Option<Call>
             x: args.number()?,
             y: args.number()?,
             string: args.byte()?,
+        }),
+        Word::DevCreate => Some(Call::DevCreate {
+            w: args.side()?,
+            h: args.side()?,
+        }),
+        Word::DevDelete => Some(Call::DevDelete {
+            device: args.handle()?,
+        }),
+        Word::DevSelect => Some(Call::DevSelect {
+            device: args.handle()?,
+        }),
+        Word::DevCopy => Some(Call::DevCopy {
+            device: args.handle()?,
+            x: args.number()?,
+            y: args.number()?,
         }),
         Word::Invalidate => Some(Call::Invalidate { h: args.handle()? }),
         Word::InvalidateRect => Some(Call::InvalidateRect {

@@ -16,7 +16,7 @@ const ASSET_WORDS: &[u8] = b"string class font bitmap";
 const LATER_WORDS: &[u8] = b"display viewer done";
 
 /// Second words, after a task, of such forms.
-const LATER_CALLS: &[u8] = b"set_memdev dev_create dev_delete dev_select dev_copy begin end";
+const LATER_CALLS: &[u8] = b"begin end";
 
 /// Whether the word is one of those in the text.
 #[tactic(auto, unfolding(crate::specs::Later::is_one_of))]

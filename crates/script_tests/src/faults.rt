@@ -55,9 +55,8 @@ pub type Faulty = (u32, Reason, &'static str, &'static str);
 /// Lines of the forms that aren't built: those with each first word, and those of a task with each
 /// word after it. What follows these words isn't looked at.
 const LATER: &str = "display tick\n|display|display x\n|viewer 1 join\n|viewer 9 x\n|viewer\n\
-    |viewer  1 take\n|done\n|done 1\n|done|1 set_memdev 0\n|2 set_memdev x\n|1 set_memdev \n\
-    |1 dev_create 2 2\n|1 dev_delete 2\n|1 dev_select 2\n|1 dev_copy 2 0 0\n|1 begin\n\
-    |2 begin|1 end\n|16 end 1\n";
+    |viewer  1 take\n|done\n|done 1\n|done|1 begin\n|1 begin \n|1 begin 0\n|2 begin|1 end\n\
+    |16 end 1\n";
 
 /// Lines that nearly are of such forms, and lines of forms that are built. They go on with no font,
 /// bitmap or class.
@@ -67,7 +66,8 @@ const NOT_LATER: &str = "0 begin\n|17 begin\n|01 begin\n|-1 end\n|begin\n|1 Begi
     |1 set_trans 2 1\n|1 set_value 2 0 1\n|1 send 2 1 1\n|1 hide x\n|1 jump\n|buffers 2\n\
     |1 select 2\n|1 colour FF0000\n|1 bk_colour -\n|1 text_mode trans\n|1 font 0\n|1 save\n\
     |2 save x\n|16 restore\n|1 fill 0 0 1 1\n|1 frame 0 0 1 1\n|1 line x\n|1 bitmap 0 0 0\n\
-    |16 text 0 0 0\n\
+    |16 text 0 0 0\n|1 set_memdev 2 1\n|2 set_memdev x\n|1 dev_create 2 2\n|1 dev_delete 2\n\
+    |1 dev_select 2\n|1 dev_copy 2 0 0\n\
     |buffers 3\n|class 2 -\n|class 1 -\n|font 1 1\n|font 0 1\n|bitmap 0 1 1\n|string 0 a\n\
     |mtgui 1\n";
 
@@ -494,7 +494,7 @@ const IN_PICTURES: [Faulty; 17] = [
         HEADER,
         "font 0 1\nglyph 65 1\n#\n1 begin\n|font 0 1\nglyph 65 1\n#\ndone|font 0 1\nglyph 65 1\n.\n\
         display tick\n|bitmap 0 1 2\n-\n-\n2 begin\n|bitmap 0 1 2\n-\n-\nviewer 1 join\n\
-        |bitmap 0 1 2\n-\n-\n1 end\n|bitmap 0 1 3\n-\n-\n16 dev_copy",
+        |bitmap 0 1 2\n-\n-\n1 end\n|bitmap 0 1 3\n-\n-\n16 end",
     ),
     // Forms that are built, and other spellings.
     (6, Reason::Block, FONT, NOT_LATER),

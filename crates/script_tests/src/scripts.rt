@@ -67,7 +67,9 @@ const EACH_CALL: &str = "mtgui 1\nscreen 8 4\nbuffers 1\ndesktop 000000\n\
     1 invalidate_area -1 -2 3 4\n2 exec\n3 exec1\n4 scan\n5 select 16\n6 colour FF8001\n\
     7 bk_colour 0180FF\n8 text_mode normal\n9 text_mode trans\n10 font 255\n11 save\n\
     12 restore\n13 fill -32768 -1 0 32767\n14 frame 32767 2 -3 -32768\n15 line 1 -2 3 -4\n\
-    16 bitmap 255 -32768 32767\n1 text 32767 -32768 255\n";
+    16 bitmap 255 -32768 32767\n1 text 32767 -32768 255\n2 set_memdev 17 1\n\
+    3 set_memdev 18 0\n4 dev_create 0 65535\n5 dev_delete 4294967295\n6 dev_select 0\n\
+    7 dev_copy 19 -32768 32767\n";
 
 #[test]
 fn each_word_is_its_call(rt: HostRuntime) {
@@ -174,6 +176,22 @@ fn each_word_is_its_call(rt: HostRuntime) {
             y: i16::MIN,
             string: 255,
         },
+        Call::SetMemdev {
+            h: 17,
+            memdev: true,
+        },
+        Call::SetMemdev {
+            h: 18,
+            memdev: false,
+        },
+        Call::DevCreate { w: 0, h: u16::MAX },
+        Call::DevDelete { device: u32::MAX },
+        Call::DevSelect { device: 0 },
+        Call::DevCopy {
+            device: 19,
+            x: i16::MIN,
+            y: i16::MAX,
+        },
     ];
     let mut task = 0u16;
     for (read, call) in script.lines.iter().zip(&calls) {
@@ -185,7 +203,7 @@ fn each_word_is_its_call(rt: HostRuntime) {
 
 /// Texts of the least and the greatest numbers, with the screen's sides, the desktop's colour and
 /// the number of calls.
-const ENDS_OF_RANGES: [(&str, u16, u16, u32, u32); 10] = [
+const ENDS_OF_RANGES: [(&str, u16, u16, u32, u32); 11] = [
     (
         "mtgui 1\nscreen 1 1\nbuffers 1\ndesktop FFFFFF",
         1,
@@ -249,6 +267,15 @@ const ENDS_OF_RANGES: [(&str, u16, u16, u32, u32); 10] = [
         4,
         0,
         7,
+    ),
+    (
+        "mtgui 1\nscreen 8 4\nbuffers 1\ndesktop 000000\n1 set_memdev 0 0\n\
+        1 set_memdev 4294967295 1\n1 dev_create 0 0\n1 dev_create 65535 65535\n1 dev_delete 0\n\
+        1 dev_select 4294967295\n1 dev_copy 0 32767 32767\n16 dev_copy 4294967295 -32768 -32768",
+        8,
+        4,
+        0,
+        8,
     ),
     // Lines on the lock are no calls.
     (

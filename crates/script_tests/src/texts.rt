@@ -124,7 +124,7 @@ const TEXT: Call = Call::Text {
 };
 
 /// Calls, what they are answered, and the answer's line.
-const ANSWERS: [(Call, Reply, &str); 17] = [
+const ANSWERS: [(Call, Reply, &str); 22] = [
     (Call::Exec, Reply::Done, "ok\n"),
     (CREATE, Reply::Handle(70_000), "ok 70000\n"),
     (Call::Exec, Reply::Jobs(12), "ok 12\n"),
@@ -189,6 +189,27 @@ const ANSWERS: [(Call, Reply, &str); 17] = [
         TEXT,
         Reply::Refused(Refusal::NoText(255)),
         "refused NoText 255\n",
+    ),
+    (
+        Call::DevCreate { w: 1, h: 2 },
+        Reply::Device(u32::MAX),
+        "ok 4294967295\n",
+    ),
+    (
+        Call::DevCreate { w: 1, h: 2 },
+        Reply::Refused(Refusal::TooManyDevices),
+        "refused TooManyDevices\n",
+    ),
+    (
+        Call::DevCreate { w: 1, h: 2 },
+        Reply::Refused(Refusal::Memory),
+        "refused Memory\n",
+    ),
+    (Call::DevSelect { device: 0 }, Reply::Done, "ok\n"),
+    (
+        Call::DevDelete { device: 7 },
+        Reply::Refused(Refusal::NoDevice(7)),
+        "refused NoDevice 7\n",
     ),
 ];
 

@@ -1,6 +1,7 @@
-//! What a stroke puts on a point, by a plain program.
+//! What a stroke or a copy puts on a point, by a plain program.
 
 use context::Context;
+use frame::Frame;
 use gfx_base::Colour;
 use glyph_font::Font;
 use paint_ops::Assets;
@@ -103,4 +104,19 @@ pub fn colour_of(context: &Context, shape: &Shape, assets: &Assets, p: Place) ->
         Shape::Text(x, y, string) => return text_colour(context, string, assets, seen(x, y, p)),
     };
     if covers { Some(context.colour) } else { None }
+}
+
+/// The colour of a frame's point, if it lies inside.
+pub fn colour_at(frame: &Frame, x: u16, y: u16) -> Option<Colour> {
+    if x < frame.width() && y < frame.height() {
+        Some(frame.get(x, y))
+    } else {
+        None
+    }
+}
+
+/// The colour that a copy of a picture to x and y puts on the point of its window, if any.
+pub fn colour_of_copy(picture: &Frame, x: i16, y: i16, p: Place) -> Option<Colour> {
+    let q = seen(x, y, p);
+    colour_at(picture, u16::try_from(q.0).ok()?, u16::try_from(q.1).ok()?)
 }

@@ -1,5 +1,6 @@
-//! Small pictures of strokes.
+//! Small pictures of strokes and copies.
 
+ghost use Rattle.std.specs.Prelude.{◌≤◌};
 ghost use Rattle.paint_ops.specs.Soundness.{IsSound};
 
 use crate::setups::{assets, colour, is_stroke};
@@ -10,7 +11,7 @@ use paint_ops::Assets;
 use samples::{are_paintable, are_single};
 use scene::Win;
 use std::alloc::Global;
-use strokes::{Shape, on_screen};
+use strokes::{Shape, copy, on_device, on_screen};
 
 /// A desktop of 8 by 3 points with a window of 5 by 2 at (2, 1), of which a window above hides the
 /// last column.
@@ -202,4 +203,102 @@ fn strokes_on_small_screens(rt: HostRuntime) {
         };
         assert!(rt; shown, "case {i}");
     }
+}
+
+/// A device of these sides with a shape over grey.
+fn device(alloc: Global, w: u16, h: u16, shape: Shape, assets: &Assets) -> Option<Frame>
+    requires assets { IsSound assets.now }
+    requires sides { (1 ≤ w) × (w ≤ 8) × (1 ≤ h) × (h ≤ 3) }
+{
+    let grey = Context {
+        colour: colour(0x80_8080),
+        ..Context::default()
+    };
+    let context = Context::default();
+    if !is_stroke(&context, &shape, assets) {
+        return None;
+    }
+    let mut device = Frame::new(alloc, w, h).ok()?;
+    on_device(&grey, &Shape::Fill(0, 0, 7, 2), assets, &mut device);
+    on_device(&context, &shape, assets, &mut device);
+    Some(device)
+}
+
+/// The shape, and the picture of a device of 5 by 3 points.
+fn device_cases() -> [(Shape, &'static str); 8] {
+    let (low, high) = (i16::MIN, i16::MAX);
+    [
+        (Shape::Fill(low, low, high, high), "#####|#####|#####"),
+        (Shape::Fill(3, 1, high, high), "-----|---##|---##"),
+        (Shape::Fill(5, 0, high, 2), "-----|-----|-----"),
+        (Shape::Frame(-1, -1, 2, 2), "--#--|--#--|###--"),
+        (Shape::Line(low, 0, high, 0), "#####|-----|-----"),
+        (Shape::Bitmap(0, -31, 0), "-gggg|-----|-----"),
+        (Shape::Bitmap(0, high, high), "-----|-----|-----"),
+        (Shape::Text(3, 0, 0), "---##|---#.|---.."),
+    ]
+}
+
+/// What a copy of a picture of 3 by 2 points leaves in the window at a place on a grey screen.
+fn copied(alloc: Global, which: usize, x: i16, y: i16, assets: &Assets) -> Option<Frame>
+    requires { IsSound assets.now }
+{
+    let stack = windows();
+    let picture = device(alloc, 3, 2, Shape::Text(0, 0, 0), assets)?;
+    let mut target = device(alloc, 8, 3, Shape::Fill(1, 0, 0, 0), assets)?;
+    let is_given = are_paintable(&stack, assets) && are_single(&stack) && which < stack.len();
+    if !is_given {
+        return None;
+    }
+    copy(&stack, which, x, y, &picture, assets, &mut target);
+    Some(target)
+}
+
+/// The window's place, where the upper left point of the picture `##-|#.-` comes to, and the screen.
+fn copy_cases() -> [(usize, i16, i16, &'static str); 8] {
+    [
+        // The windows above hide what lies in them.
+        (0, 0, 0, "##------|#.------|--------"),
+        (0, 7, 0, "-------#|--------|--------"),
+        (0, 5, 1, "--------|--------|--------"),
+        // A copy ends at the window's edges.
+        (1, 0, 0, "--------|--##----|--#.----"),
+        (1, -1, -1, "--------|--.-----|--------"),
+        (1, 3, 0, "--------|-----#--|-----#--"),
+        (2, 0, 1, "--------|--------|------##"),
+        (2, i16::MAX, i16::MIN, "--------|--------|--------"),
+    ]
+}
+
+/// Whether there is a frame, and it shows the picture.
+fn is_picture(frame: Option<Frame>, picture: &str) -> bool {
+    match frame {
+        Some(frame) => shows(&frame, picture),
+        None => false,
+    }
+}
+
+fn are_pictures(alloc: Global, assets: &Assets) -> bool
+    requires { IsSound assets.now }
+{
+    for (shape, picture) in device_cases() {
+        if !is_picture(device(alloc, 5, 3, shape, assets), picture) {
+            return false;
+        }
+    }
+    for (which, x, y, picture) in copy_cases() {
+        if !is_picture(copied(alloc, which, x, y, assets), picture) {
+            return false;
+        }
+    }
+    true
+}
+
+#[test]
+fn shapes_end_at_a_devices_edges_and_copies_at_a_windows(rt: HostRuntime) {
+    let shown = match assets(rt.alloc()) {
+        Some(assets) => are_pictures(rt.alloc(), &assets),
+        None => false,
+    };
+    assert!(rt; shown);
 }

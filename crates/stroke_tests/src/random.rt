@@ -1,18 +1,22 @@
-//! Shapes in random windows, held point by point against a plain program.
+//! Shapes and copies in random windows, and shapes on devices, held point by point against a plain
+//! program.
 
-ghost use Rattle.std.specs.Prelude.{◌<◌};
+ghost use Rattle.std.specs.Prelude.{◌≡◌, ◌<◌, ◌≤◌, length, true};
+ghost use Rattle.std.specs.List.{AllByRecursion};
+ghost use Rattle.scene.specs.Looks.{IsPaintable};
+ghost use Rattle.scene.specs.Places.{AreSingle};
 ghost use Rattle.paint_ops.specs.Soundness.{IsSound};
 
-use crate::coverage::colour_of;
+use crate::coverage::{colour_at, colour_of, colour_of_copy};
 use crate::setups::{assets, colour, is_stroke};
 use context::Context;
 use frame::Frame;
 use gfx_base::{Colour, Point, Rect, Tile, Tiles};
 use paint_ops::Assets;
 use samples::{Numbers, are_paintable, are_single};
-use scene::{Stack, Win, ground, origin, paint_whole, screen};
+use scene::{MOST_WINDOWS, Stack, Win, ground, origin, paint_whole, screen};
 use std::alloc::Global;
-use strokes::{Shape, on_screen};
+use strokes::{Shape, copy, on_device, on_screen};
 
 const WIDTH: u16 = 40;
 
@@ -96,12 +100,19 @@ fn sees(stack: &[Win], which: usize, screen: &Rect, assets: &Assets, p: Point) -
     true
 }
 
-/// The colour that a stroke puts on a point of the screen, if any.
+/// What is put down in a window.
+#[derive(Clone, Copy)]
+enum Ink {
+    Stroke(Context, Shape),
+    Copy(i16, i16),
+}
+
+/// The colour that is put on a point of the screen, if any. Copies are of the picture.
 fn due_colour(
     stack: &[Win],
     which: usize,
-    context: &Context,
-    shape: &Shape,
+    ink: &Ink,
+    picture: &Frame,
     assets: &Assets,
     p: Point,
 ) -> Option<Colour> {
@@ -111,7 +122,10 @@ fn due_colour(
     let corner = origin(stack, which);
     let x = i64::from(p.x).wrapping_sub(i64::from(corner.x));
     let y = i64::from(p.y).wrapping_sub(i64::from(corner.y));
-    colour_of(context, shape, assets, (x, y))
+    match ink {
+        Ink::Stroke(context, shape) => colour_of(context, shape, assets, (x, y)),
+        Ink::Copy(left, top) => colour_of_copy(picture, *left, *top, (x, y)),
+    }
 }
 
 /// The tile that holds the point, which lies on a screen.
@@ -125,26 +139,18 @@ fn tile_of(x: u16, y: u16) -> Tile
     }
 }
 
-fn colour_at(frame: &Frame, x: u16, y: u16) -> Option<Colour> {
-    if x < frame.width() && y < frame.height() {
-        Some(frame.get(x, y))
-    } else {
-        None
-    }
-}
-
-/// How many points aren't those of the stroke, or what was there before; answered tiles without a
-/// point of the stroke and those that aren't answered count too.
+/// How many points aren't those that were put down, or what was there before; answered tiles without
+/// a point that was put down and those that aren't answered count too. The frames are the picture,
+/// and the screen before and after.
 fn wrong_points(
     stack: &[Win],
     which: usize,
-    context: &Context,
-    shape: &Shape,
+    ink: &Ink,
     assets: &Assets,
-    frames: [&Frame; 2],
+    frames: [&Frame; 3],
     tiles: &Tiles,
 ) -> u32 {
-    let [before, after] = frames;
+    let [picture, before, after] = frames;
     let mut due = Tiles::empty();
     let mut wrong = 0u32;
     for y in 0..HEIGHT {
@@ -153,7 +159,7 @@ fn wrong_points(
                 x: i32::from(x),
                 y: i32::from(y),
             };
-            let put = due_colour(stack, which, context, shape, assets, p);
+            let put = due_colour(stack, which, ink, picture, assets, p);
             if put.is_some() {
                 due.add(tile_of(x, y));
             }
@@ -174,38 +180,108 @@ fn wrong_points(
     wrong
 }
 
-/// Draws one random shape in a random window, and tells how many points and tiles are wrong.
+fn any_context(numbers: &mut Numbers) -> Context {
+    Context {
+        colour: colour(0xFF_FFFF),
+        bk: colour(0x80_8080),
+        trans_text: numbers.below(2) == 0,
+        ..Context::default()
+    }
+}
+
+fn any_ink(numbers: &mut Numbers) -> Ink {
+    if numbers.below(3) == 0 {
+        return Ink::Copy(any_place(numbers), any_place(numbers));
+    }
+    Ink::Stroke(any_context(numbers), any_shape(numbers))
+}
+
+/// A device with a shape, which is compared with the plain program's: how many points are wrong.
+fn drawn_device(alloc: Global, numbers: &mut Numbers, assets: &Assets) -> Option<(Frame, u32)>
+    requires { IsSound assets.now }
+{
+    let (w, h) = (1 + numbers.below(60), 1 + numbers.below(20));
+    let mut device = Frame::new(alloc, w, h).ok()?;
+    let (context, shape) = (any_context(numbers), any_shape(numbers));
+    if !is_stroke(&context, &shape, assets) {
+        return None;
+    }
+    on_device(&context, &shape, assets, &mut device);
+    let mut wrong = 0u32;
+    for y in 0..h {
+        for x in 0..w {
+            let put = colour_of(&context, &shape, assets, (i64::from(x), i64::from(y)));
+            if colour_at(&device, x, y) != Some(put.unwrap_or_default()) {
+                wrong = wrong.saturating_add(1);
+            }
+        }
+    }
+    Some((device, wrong))
+}
+
+/// Whether the windows are some that may be drawn on.
+fn are_given(stack: &[Win], assets: &Assets) -> bool
+    ensures few { result ≡ true → length stack.now ≤ 256 }
+    ensures windows { result ≡ true → AllByRecursion (IsPaintable assets.now) stack.now }
+    ensures single { result ≡ true → AreSingle stack.now }
+{
+    stack.len() <= MOST_WINDOWS && are_paintable(stack, assets) && are_single(stack)
+}
+
+/// A screen with the painter's picture, where there is one.
+fn painted(alloc: Global, stack: &[Win], assets: &Assets) -> Option<Frame>
+    requires { IsSound assets.now }
+{
+    if !are_given(stack, assets) {
+        return None;
+    }
+    let mut target = Frame::new(alloc, WIDTH, HEIGHT).ok()?;
+    paint_whole(stack, assets, &mut target);
+    Some(target)
+}
+
+/// Puts a stroke or a copy of the picture in the window at a place.
+fn put(
+    stack: &[Win],
+    which: usize,
+    ink: &Ink,
+    picture: &Frame,
+    assets: &Assets,
+    target: &mut Frame,
+) -> Option<Tiles>
+    requires { IsSound assets.now }
+{
+    if !are_given(stack, assets) || which >= stack.len() {
+        return None;
+    }
+    match ink {
+        Ink::Stroke(context, shape) if is_stroke(context, shape, assets) => {
+            Some(on_screen(stack, which, context, shape, assets, target))
+        }
+        Ink::Stroke(..) => None,
+        Ink::Copy(x, y) => Some(copy(stack, which, *x, *y, picture, assets, target)),
+    }
+}
+
+/// Draws one random shape on a device, and puts another one or a copy of the device in a random
+/// window. The answer is how many points and tiles are wrong.
 fn try_one(alloc: Global, numbers: &mut Numbers, assets: &Assets) -> Option<u32>
     requires { IsSound assets.now }
 {
     let count = numbers.below(7);
     let stack = any_stack(numbers, count);
     let which = usize::from(numbers.below(count.saturating_add(1).max(1)));
-    let context = Context {
-        colour: colour(0xFF_FFFF),
-        bk: colour(0x80_8080),
-        trans_text: numbers.below(2) == 0,
-        ..Context::default()
-    };
-    let shape = any_shape(numbers);
-    let mut before = Frame::new(alloc, WIDTH, HEIGHT).ok()?;
-    let mut after = Frame::new(alloc, WIDTH, HEIGHT).ok()?;
-    let is_given = are_paintable(&stack, assets)
-        && are_single(&stack)
-        && is_stroke(&context, &shape, assets)
-        && which < stack.len();
-    if !is_given {
-        return None;
-    }
-    paint_whole(&stack, assets, &mut before);
-    paint_whole(&stack, assets, &mut after);
-    let tiles = on_screen(&stack, which, &context, &shape, assets, &mut after);
-    let frames = [&before, &after];
-    Some(wrong_points(&stack, which, &context, &shape, assets, frames, &tiles))
+    let ink = any_ink(numbers);
+    let (picture, wrong) = drawn_device(alloc, numbers, assets)?;
+    let before = painted(alloc, &stack, assets)?;
+    let mut after = painted(alloc, &stack, assets)?;
+    let tiles = put(&stack, which, &ink, &picture, assets, &mut after)?;
+    let frames = [&picture, &before, &after];
+    Some(wrong_points(&stack, which, &ink, assets, frames, &tiles).saturating_add(wrong))
 }
 
 #[test]
-fn strokes_are_those_of_a_plain_program(rt: HostRuntime) {
+fn strokes_and_copies_are_those_of_a_plain_program(rt: HostRuntime) {
     let mut numbers = Numbers::new(18);
     let mut wrong = 0u32;
     let mut drawn = 0u32;

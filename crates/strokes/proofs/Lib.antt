@@ -6,3 +6,6 @@ pub mod DrawLemmas
 pub mod TileLemmas
 pub mod CourseLemmas
 pub mod ScreenLemmas
+pub mod VisibleLemmas
+pub mod DeviceLemmas
+pub mod CopyLemmas

@@ -1,11 +1,11 @@
--- What a task's stroke puts down. A stroke is one shape, drawn with the task's context.
-use Rattle.std.specs.Prelude.{ℕ, ◌+◌, ℤ, pos, ◌+ℤ◌, ◌-ℤ◌, Bool, ◌&&◌, if◌then◌else◌, List, [], drop, Option, None, is_some, unwrap_or, slice_index_or}
+-- What a task's stroke or copy puts down. A stroke is one shape, drawn with the task's context.
+use Rattle.std.specs.Prelude.{ℕ, ◌+◌, ℤ, pos, ◌+ℤ◌, ◌-ℤ◌, unsigned_abs, Bool, ◌&&◌, if◌then◌else◌, List, [], drop, Option, None, is_some, unwrap_or, slice_index_or}
 use Rattle.gfx_base.specs.declared.num.Base.TheVariants.{Zero}
 use Rattle.gfx_base.specs.declared.num.Num.{Num}
 use Rattle.gfx_base.specs.declared.point.Point.{Point}
 use Rattle.gfx_base.specs.declared.rect.Rect.{Rect}
 use Rattle.gfx_base.specs.Rects.{has, point_at}
-use Rattle.frame.specs.Pictures.{Picture, changed}
+use Rattle.frame.specs.Pictures.{Picture, colour_at, changed}
 use Rattle.glyph_font.specs.Fonts.{Font, width_of_text}
 use Rattle.paint_ops.specs.declared.op.Op.{Op}
 use Rattle.paint_ops.specs.declared.op.Op.TheVariants as op
@@ -16,11 +16,17 @@ use Rattle.scene.specs.Places.{no_window}
 use Rattle.scene.specs.Clips.{corner_in}
 use Rattle.scene.specs.Painting.{Looks}
 use Rattle.scene.specs.Damage.{is_seen}
+use Rattle.scene.specs.Looks.{screen_with}
 use Rattle.context.specs.declared.context.Context.{Context}
 use Rattle.strokes.specs.declared.shape.Shape.{Shape}
 use Rattle.strokes.specs.declared.shape.Shape.TheVariants.{Fill, Frame, Line, Bitmap, Text}
 
--- ---- a point of a window or a device
+-- the colours that are put down: for each point, counted from the upper left corner of a window or
+-- a device, its colour, or none
+abbrev pub Ink : Type 0
+Ink = Point → Option ℕ
+
+-- ---- strokes
 
 -- the coordinate that is this number, whatever the window
 abbrev pub plain : ℤ → Num
@@ -38,8 +44,8 @@ operation_of c (Text x y string) = op.Text c.font (plain x) (plain y) c.colour s
 abbrev pub no_inputs : Inputs
 no_inputs = record { values = []; width = 0; height = 0 }
 
--- the cells of a text's glyphs, side by side, the first one's upper left point at x and y: they have
--- the glyphs' widths and the font's height
+-- the cells of a text's glyphs, side by side, the first one's upper left point at x and y: they
+-- have the glyphs' widths and the font's height
 abbrev pub cells_of : Font → List ℕ → ℤ → ℤ → Rect
 cells_of font text x y =
     record {
@@ -49,8 +55,8 @@ cells_of font text x y =
       y1 = (y +ℤ pos font.height) -ℤ pos 1;
     }
 
--- the colour behind a shape: behind text the context's, on all points of the cells, unless it leaves
--- them as they are; behind other shapes none
+-- the colour behind a shape: behind text the context's, on all points of the cells, unless it
+-- leaves them as they are; behind other shapes none
 abbrev pub colour_behind : Assets → Context → Shape → Point → Option ℕ
 colour_behind assets c (Text x y string) p =
     let cells = cells_of (font_at assets c.font) (string_at assets string) x y in
@@ -64,24 +70,41 @@ colour_of_stroke assets c shape p =
     or_behind (colour_behind assets c shape p)
     (colour_of_operation assets no_inputs (operation_of c shape) p)
 
+-- ---- copies
+
+-- the colour that a copy of a picture, whose upper left point comes to x and y, puts on a point:
+-- that of the picture's point there; or none
+unfoldable pub colour_of_copy : Picture → ℤ → ℤ → Point → Option ℕ
+colour_of_copy picture x y p =
+    let q = seen_from (point_at x y) p in
+    on_points (has (screen_with picture.width picture.height) q)
+    (colour_at picture (unsigned_abs q.x) (unsigned_abs q.y))
+
+-- ---- a device
+
+-- the picture with an ink on the whole of it
+abbrev pub inked_whole : Ink → Picture → Picture
+inked_whole ink picture =
+    changed picture (λ x y. is_some (ink (point_at (pos x) (pos y))))
+    (λ x y. unwrap_or (ink (point_at (pos x) (pos y))) 0)
+
 -- ---- the screen
 
--- the colour that a stroke in the window at a place puts on a point of the screen, if the window
--- sees it; or none
-abbrev pub colour_from : Assets → List Win → ℕ → Context → Shape → Point → Option ℕ
-colour_from assets ws which c shape p =
-    colour_of_stroke assets c shape
-    (seen_from (corner_in ws (slice_index_or ws which no_window)) p)
+-- the colour that an ink in the window at a place puts on a point of the screen, if the window sees
+-- it; or none
+abbrev pub colour_from : List Win → ℕ → Ink → Point → Option ℕ
+colour_from ws which ink p =
+    ink (seen_from (corner_in ws (slice_index_or ws which no_window)) p)
 
--- whether a stroke in the window at a place puts down a point of the screen: the window sees it, and
--- the stroke puts a colour on it
-abbrev pub puts_down : Assets → Looks → List Win → ℕ → Context → Shape → Point → Bool
-puts_down assets looks ws which c shape p =
+-- whether an ink in the window at a place puts down a point of the screen: the window sees it, and
+-- the ink gives it a colour
+abbrev pub puts_down : Looks → List Win → ℕ → Ink → Point → Bool
+puts_down looks ws which ink p =
     is_seen looks (slice_index_or ws which no_window) (drop (which + 1) ws) p
-    && is_some (colour_from assets ws which c shape p)
+    && is_some (colour_from ws which ink p)
 
--- the picture with a stroke in the window at a place
-abbrev pub stroked : Assets → Looks → List Win → ℕ → Context → Shape → Picture → Picture
-stroked assets looks ws which c shape picture =
-    changed picture (λ x y. puts_down assets looks ws which c shape (point_at (pos x) (pos y)))
-    (λ x y. unwrap_or (colour_from assets ws which c shape (point_at (pos x) (pos y))) 0)
+-- the picture with an ink in the window at a place
+abbrev pub stroked : Looks → List Win → ℕ → Ink → Picture → Picture
+stroked looks ws which ink picture =
+    changed picture (λ x y. puts_down looks ws which ink (point_at (pos x) (pos y)))
+    (λ x y. unwrap_or (colour_from ws which ink (point_at (pos x) (pos y))) 0)

@@ -1,4 +1,4 @@
-//! Rectangles that have all points of a shape.
+//! Rectangles that have all points of a shape or of a picture.
 
 ghost use Rattle.std.specs.Prelude.{◌≡◌, ℤ, pos, ◌+ℤ◌, ◌-ℤ◌, ◌≤◌, ◌<◌, length, true, is_some};
 ghost use Rattle.gfx_base.specs.declared.point.Point.{Point as Place};
@@ -6,12 +6,14 @@ ghost use Rattle.gfx_base.specs.Range.{IsNear};
 ghost use Rattle.gfx_base.specs.Rects.{has};
 ghost use Rattle.glyph_font.specs.Fonts.{IsFont};
 ghost use Rattle.paint_ops.specs.Soundness.{IsOperation};
-ghost use Rattle.strokes.specs.Strokes.{operation_of, cells_of, colour_of_stroke};
-ghost use Rattle.strokes.specs.Parts.{rect_with, points_of_image, bounds_of};
+ghost use Rattle.frame.specs.Pictures.{HasShape};
+ghost use Rattle.strokes.specs.Strokes.{operation_of, cells_of, colour_of_stroke, colour_of_copy};
+ghost use Rattle.strokes.specs.Parts.{rect_with, block_of, points_of_image, bounds_of};
 
 use crate::shape::Shape;
 use bitmap::Bitmap;
 use context::Context;
+use frame::Frame;
 use gfx_base::Rect;
 use glyph_font::Font;
 use paint_ops::Assets;
@@ -38,18 +40,27 @@ fn last(first: i16, count: u32) -> i32
     i32::from(first) + count as i32 - 1
 }
 
+/// The points of so many columns and rows, the upper left one at x and y.
+fn block(x: i16, y: i16, width: u16, height: u16) -> Rect
+    requires { (width ≤ 4096) × (height ≤ 4096) }
+    ensures value { result ≡ block_of x y width height }
+    ensures near { IsNear result.x0 × IsNear result.y0 × IsNear result.x1 × IsNear result.y1 }
+{
+    Rect {
+        x0: i32::from(x),
+        y0: i32::from(y),
+        x1: last(x, u32::from(width)),
+        y1: last(y, u32::from(height)),
+    }
+}
+
 /// The points of a bitmap whose upper left one is at x and y.
 fn points_of(bitmap: &Bitmap, x: i16, y: i16) -> Rect
     ensures value { result ≡ points_of_image bitmap.now x y }
     ensures near { IsNear result.x0 × IsNear result.y0 × IsNear result.x1 × IsNear result.y1 }
 {
     let width = bitmap.width();
-    Rect {
-        x0: i32::from(x),
-        y0: i32::from(y),
-        x1: last(x, u32::from(width)),
-        y1: last(y, u32::from(bitmap.height())),
-    }
+    block(x, y, width, bitmap.height())
 }
 
 /// The cells of a text's glyphs, side by side, the first one's upper left point at x and y.
@@ -87,4 +98,14 @@ pub fn bounds(context: &Context, shape: &Shape, assets: &Assets) -> Rect
             cells_of(&assets.fonts[usize::from(context.font)], text, x, y)
         }
     }
+}
+
+/// The points of a picture whose upper left one is at x and y.
+pub fn points_of_picture(picture: &Frame, x: i16, y: i16) -> Rect
+    ensures shape { HasShape picture.now.picture }
+    ensures all { (p : Place) → is_some (colour_of_copy picture.now.picture x y p) ≡ has result p }
+    ensures near { IsNear result.x0 × IsNear result.y0 × IsNear result.x1 × IsNear result.y1 }
+{
+    let width = picture.width();
+    block(x, y, width, picture.height())
 }

@@ -1,20 +1,15 @@
 //! Strokes on the screen.
 
-ghost use Rattle.std.specs.Prelude.{◌≡◌, ◌+◌, ◌<◌, ◌≤◌, pos, length, drop, true, false, []};
+ghost use Rattle.std.specs.Prelude.{◌≡◌, ◌<◌, ◌≤◌, pos, length};
 ghost use Rattle.std.specs.List.{AllByRecursion};
-ghost use Rattle.arrayvec.specs.ArrayVec.{array_vec_len};
-ghost use Rattle.gfx_base.specs.declared.point.Point.{Point as Place};
-ghost use Rattle.gfx_base.specs.Rects.{has, point_at};
+ghost use Rattle.gfx_base.specs.Rects.{point_at};
 ghost use Rattle.gfx_base.specs.TileSets.{AreTilesOf};
 ghost use Rattle.paint_ops.specs.Soundness.{IsSound, IsOperation};
 ghost use Rattle.scene.specs.Looks.{IsPaintable, screen_with, looks_of};
-ghost use Rattle.scene.specs.Painting.{windows_at, hides_behind};
-ghost use Rattle.scene.specs.Paths.{AreOnLevels};
-ghost use Rattle.scene.specs.Places.{place_at, AreSingle};
-ghost use Rattle.exec_paint.specs.Plans.{HideTo};
+ghost use Rattle.scene.specs.Places.{AreSingle};
 ghost use Rattle.paint_ops.specs.Rows.{IsOrigin};
 ghost use Rattle.exec_paint.specs.Areas.{IsOn};
-ghost use Rattle.strokes.specs.Strokes.{operation_of, puts_down, stroked};
+ghost use Rattle.strokes.specs.Strokes.{operation_of, colour_of_stroke, puts_down, stroked};
 ghost use Rattle.strokes.specs.Parts.{bounds_of, LiesWithin, is_inked, IsShortPoint};
 
 use crate::bounds::bounds;
@@ -23,53 +18,13 @@ use crate::edges::{edge_tiles, free_tiles};
 use crate::lines::line_tiles;
 use crate::points::drawn_tiles;
 use crate::shape::Shape;
-use arrayvec::ArrayVec;
+use crate::visible::{Holes, Part, visible_part};
 use context::Context;
-use exec_paint::{Hole, add_hole, covers, is_opaque, meets, window_of};
+use exec_paint::Hole;
 use frame::Frame;
 use gfx_base::{Point, Rect, Tiles};
 use paint_ops::Assets;
-use scene::{Ancestors, MOST_WINDOWS, Win, screen};
-
-/// What windows hide of an area.
-type Holes = ArrayVec<Hole, MOST_WINDOWS>;
-
-/// Takes the windows above the one at `which` that hide a part of the area as holes. The answer is
-/// whether a single one hides the whole area.
-fn take_holes(
-    stack: &[Win],
-    which: usize,
-    area: &Rect,
-    screen: &Rect,
-    assets: &Assets,
-    ancestors: &mut Ancestors,
-    holes: &mut Holes,
-) -> bool
-    requires few { length stack.now ≤ 256 }
-    requires windows { AllByRecursion (IsPaintable assets.now) stack.now }
-    requires single { AreSingle stack.now }
-    requires which { which < length stack.now }
-    requires ancestors { AreOnLevels (place_at stack.now) screen.now 1 ancestors.old }
-    requires holes { holes.old.items ≡ [] }
-    ensures few { array_vec_len holes.new ≤ 255 }
-    ensures hidden { result ≡ true → (p : Place) → has area.now p ≡ true
-        → let looks = looks_of assets.now screen.now stack.now in
-        hides_behind looks (windows_at looks (drop (which + 1) stack.now) p) ≡ true }
-    ensures holes { result ≡ false
-        → HideTo (looks_of assets.now screen.now stack.now) area.now holes.new.items []
-        (drop (which + 1) stack.now) }
-{
-    for i in which + 1..stack.len() {
-        let spot = ancestors.next_spot(stack, i, screen);
-        if is_opaque(window_of(stack, i), assets) && meets(&spot.clip, area) {
-            if covers(&spot.clip, area) {
-                return true;
-            }
-            holes.push(Hole { clip: spot.clip });
-        }
-    }
-    false
-}
+use scene::Win;
 
 /// The point with these coordinates.
 fn place(x: i16, y: i16) -> Point
@@ -149,34 +104,23 @@ pub fn on_screen(
     requires place { i < length stack.now }
     requires shape { IsOperation assets.now (operation_of context.now shape.now) }
     ensures picture { target.new.picture
-        ≡ stroked assets.now
+        ≡ stroked
         (looks_of assets.now
         (screen_with target.old.picture.width target.old.picture.height) stack.now) stack.now i
-        context.now shape.now target.old.picture }
+        (colour_of_stroke assets.now context.now shape.now) target.old.picture }
     ensures tiles { AreTilesOf target.old.picture.width target.old.picture.height
-        (λ x y. puts_down assets.now
+        (λ x y. puts_down
         (looks_of assets.now
         (screen_with target.old.picture.width target.old.picture.height) stack.now) stack.now i
-        context.now shape.now (point_at (pos x) (pos y))) result }
+        (colour_of_stroke assets.now context.now shape.now) (point_at (pos x) (pos y))) result }
 {
     let (width, height) = (target.width(), target.height());
-    let screen = screen(width, height);
-    let mut ancestors = Ancestors::new();
-    let spot = ancestors.next_spot(stack, i, &screen);
     let bounds = bounds(context, shape, assets);
-    // A window that is nowhere on the screen may lie far from it.
-    if spot.clip.is_empty() {
-        return Tiles::empty();
-    }
-    let corner = spot.corner;
-    let area = spot.clip.meet(&bounds.shift(corner.x, corner.y));
-    if area.is_empty() {
-        return Tiles::empty();
-    }
     let mut holes = Holes::new();
-    if take_holes(stack, i, &area, &screen, assets, &mut ancestors, &mut holes) {
+    let Some(part) = visible_part(stack, i, &bounds, width, height, assets, &mut holes) else {
         return Tiles::empty();
-    }
+    };
+    let Part { corner, area } = part;
     let holes = holes.as_slice();
     draw_stroke(context, shape, corner, &area, holes, assets, target);
     stroke_tiles(context, shape, corner, &area, holes, assets, width, height)

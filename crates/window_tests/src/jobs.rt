@@ -1,7 +1,9 @@
 //! Jobs of windows in random stacks, held point by point against a plain program: the painter's
-//! picture on the window's patch, what was there elsewhere, and the patch's tiles.
+//! picture on the window's patch, what was there elsewhere, and the patch's tiles. Each stack's job
+//! is done straight on the target and by way of a memory device, and the latter writes as many
+//! points to the target as the patch has.
 
-ghost use Rattle.std.specs.Prelude.{◌<◌};
+ghost use Rattle.std.specs.Prelude.{◌≡◌, ◌<◌, IfSome};
 ghost use Rattle.paint_ops.specs.Soundness.{IsSound};
 
 use crate::painter::{assets, win, with_value};
@@ -60,8 +62,9 @@ fn any_area(numbers: &mut Numbers) -> Rect {
     }
 }
 
-/// So many windows, the desktop among them, of which the one at a random place is invalid.
-fn any_stack(numbers: &mut Numbers, count: u16) -> (Stack, usize) {
+/// So many windows, the desktop among them, with a memory device or without, of which the one at a
+/// random place is invalid.
+fn any_stack(numbers: &mut Numbers, count: u16, memdev: bool) -> (Stack, usize) {
     let which = if count == 0 { 0 } else { numbers.below(count) };
     let mut stack = Stack::new();
     for at in 0..count {
@@ -75,7 +78,11 @@ fn any_stack(numbers: &mut Numbers, count: u16) -> (Stack, usize) {
         } else {
             None
         };
-        let _ = stack.try_push(Win { invalid, ..place });
+        let _ = stack.try_push(Win {
+            invalid,
+            memdev,
+            ..place
+        });
     }
     (stack, usize::from(which))
 }
@@ -171,9 +178,25 @@ fn wrong_points(patch: &Patch, sides: (u16, u16), frames: [&Frame; 3], tiles: &T
     wrong
 }
 
+/// How many points of a screen of these sides the patch has.
+fn points_of(patch: &Patch, sides: (u16, u16)) -> u64 {
+    let mut count = 0u64;
+    for y in 0..sides.1 {
+        for x in 0..sides.0 {
+            let is_due = patch.has(Point {
+                x: i32::from(x),
+                y: i32::from(y),
+            });
+            count = count.wrapping_add(u64::from(is_due));
+        }
+    }
+    count
+}
+
 /// A frame of these sides on which the windows are painted; it is black where there are none.
 fn painted(alloc: Global, stack: &[Win], assets: &Assets, sides: (u16, u16)) -> Option<Frame>
     requires { IsSound assets.now }
+    ensures { IfSome result (λ f. (f.picture.width ≡ sides.0) × (f.picture.height ≡ sides.1)) }
 {
     if sides.0 == 0 || 1024 < sides.0 || sides.1 == 0 || 768 < sides.1 {
         return None;
@@ -186,8 +209,9 @@ fn painted(alloc: Global, stack: &[Win], assets: &Assets, sides: (u16, u16)) -> 
     Some(frame)
 }
 
-/// How many points and tiles are wrong after the job of a window, on a frame that was blue; `None`
-/// where there is no memory or no such window.
+/// How many points and tiles are wrong after the job of a window, on a frame that was blue, and one
+/// more where a job that composes wrote another number of points than the patch has, or any other
+/// one wrote to the device; `None` where there is no memory or no such window.
 fn wrong_in_job(
     alloc: Global,
     stack: &[Win],
@@ -212,31 +236,40 @@ fn wrong_in_job(
         return None;
     }
     let patch = Patch::of(alloc, stack, which, &screen(sides.0, sides.1), assets)?;
+    let (shown, composed) = (after.writes(), device.writes());
     let tiles = job(stack, which, assets, &mut device, &mut after);
-    Some(wrong_points(&patch, sides, [&before, &whole, &after], &tiles))
+    let as_counted = if stack[which].memdev {
+        after.writes().wrapping_sub(shown) == points_of(&patch, sides)
+    } else {
+        device.writes() == composed
+    };
+    let wrong = wrong_points(&patch, sides, [&before, &whole, &after], &tiles);
+    Some(wrong.wrapping_add(u32::from(!as_counted)))
 }
 
 #[test]
 fn jobs_in_random_stacks(rt: HostRuntime) {
     let alloc = rt.alloc();
     let assets = assets(alloc);
-    for seed in 0..20 {
+    for turn in 0..40 {
+        let (seed, memdev) = (turn / 2, turn % 2 == 1);
         let mut numbers = Numbers::new(seed);
         for count in [1u16, 2, 3, 5, 9, 16, 40, 256] {
-            let (stack, which) = any_stack(&mut numbers, count);
+            let (stack, which) = any_stack(&mut numbers, count, memdev);
             let wrong = match &assets {
                 Some(assets) => wrong_in_job(alloc, &stack, which, assets, (30, 33)),
                 None => None,
             };
-            assert_eq!(rt; wrong, Some(0), "seed {seed}, {count} windows");
+            assert_eq!(rt; wrong, Some(0), "seed {seed}, {count} windows, {memdev}");
         }
     }
 }
 
 /// A window that is invalid as a whole, below one that hides all of it or but its lowest row.
-fn covered(height: u16) -> [Win; 3] {
+fn covered(height: u16, memdev: bool) -> [Win; 3] {
     let lower = Win {
         h: 20,
+        memdev,
         invalid: Some(screen(1024, 768)),
         ..win(2, 1, 4, 20, 1)
     };
@@ -251,16 +284,20 @@ fn covered(height: u16) -> [Win; 3] {
 fn a_hidden_patch_and_the_largest_screen(rt: HostRuntime) {
     let alloc = rt.alloc();
     let assets = assets(alloc);
-    for (sides, height) in [
-        ((40, 40), 20),
-        ((40, 40), 19),
-        ((1, 1), 1),
-        ((1024, 768), 19),
+    for (sides, height, memdev) in [
+        ((40, 40), 20, false),
+        ((40, 40), 20, true),
+        ((40, 40), 19, false),
+        ((40, 40), 19, true),
+        ((1, 1), 1, true),
+        ((1024, 768), 19, false),
+        ((1024, 768), 19, true),
     ] {
+        let stack = covered(height, memdev);
         let wrong = match &assets {
-            Some(assets) => wrong_in_job(alloc, &covered(height), 1, assets, sides),
+            Some(assets) => wrong_in_job(alloc, &stack, 1, assets, sides),
             None => None,
         };
-        assert_eq!(rt; wrong, Some(0), "{height} rows");
+        assert_eq!(rt; wrong, Some(0), "{height} rows, {memdev}");
     }
 }

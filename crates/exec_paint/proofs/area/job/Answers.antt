@@ -1,4 +1,4 @@
-use Rattle.std.proofs.Common.{◌≡◌, ◌+◌, ℕ, false, ◌&&◌, pos, Option, Some, None, List, get_or, drop, sym, ap, ◌∙◌}
+use Rattle.std.proofs.Common.{◌≡◌, ◌+◌, ◌%◌, ◌^◌, ℕ, false, ◌&&◌, pos, Option, Some, None, List, get_or, drop, sym, ap, ◌∙◌}
 use Rattle.std.specs.Prelude.{slice_get}
 use Rattle.std.proofs.lemmas.Bool.{and_parts}
 use Rattle.std.proofs.lemmas.Option.{get_or_from_slice_get, slice_get-get_or}
@@ -6,6 +6,7 @@ use Rattle.gfx_base.specs.declared.point.Point.{Point}
 use Rattle.gfx_base.specs.declared.rect.Rect.{Rect}
 use Rattle.gfx_base.specs.Rects.{has, point_at}
 use Rattle.gfx_base.proofs.CallerLemmas.{has-empty}
+use Rattle.frame.specs.Canvases.{Canvas}
 use Rattle.scene.specs.declared.win.Win.{Win}
 use Rattle.scene.specs.Clips.{clip_in}
 use Rattle.scene.specs.Looks.{screen_with}
@@ -14,6 +15,7 @@ use Rattle.scene.proofs.CallerLemmas.{has-clip_in, in_patch_at-get}
 use Rattle.scene.specs.Places.{no_window}
 use Rattle.exec_paint.specs.Areas.{is_open}
 use Rattle.exec_paint.proofs.AreaLemmas.{screen_is, looks_on, on-screen, open-patch, patch-painted, patch-empty, patch-valid, patch-outside, tiles-same, tiles-empty}
+use Rattle.exec_paint.proofs.WriteLemmas.{points_in-same, points_in-none, no_more}
 use Rattle.exec_paint.proofs.area.job.Goals as goal
 use Rattle.exec_paint.proofs.area.job.Goals.{in-Some+else-not-is_empty, in_default}
 
@@ -68,7 +70,7 @@ pub returns-then-not-is_empty-clause-picture : goal.returns-then-not-is_empty-cl
 returns-then-not-is_empty-clause-picture c =
     let a = c.args in
     let p = a.target.now.picture in
-    patch-painted p c.paint_area.new.target.picture (looks_on a.assets.now a.stack.now p) a.stack.now a.which (drop (a.which + 1) a.stack.now) c.meet-area.result c.width.ensures.shape (open_is_patch c) c.paint_area.ensures.picture
+    patch-painted p c.paint_area.new.target.picture (looks_on a.assets.now a.stack.now p) a.stack.now a.which (drop (a.which + 1) a.stack.now) c.meet-area.result c.width.ensures.shape (open_is_patch c) c.paint_area.ensures.painted.picture
 
 pub returns-then-not-is_empty-clause-tiles : goal.returns-then-not-is_empty-clause-tiles
 returns-then-not-is_empty-clause-tiles c =
@@ -77,6 +79,16 @@ returns-then-not-is_empty-clause-tiles c =
     let looks = looks_on a.assets.now a.stack.now p in
     tiles-same p.width p.height (λ x y. is_open looks (drop (a.which + 1) a.stack.now) c.meet-area.result (point_at (pos x) (pos y))) (λ x y. in_patch_at looks a.stack.now a.which (point_at (pos x) (pos y))) c.paint_area.result
     (λ x y. open_is_patch c (point_at (pos x) (pos y))) c.paint_area.ensures.tiles
+
+pub returns-then-not-is_empty-clause-once : goal.returns-then-not-is_empty-clause-once
+returns-then-not-is_empty-clause-once c composes =
+    let a = c.args in
+    let f = a.target.now in
+    let p = f.picture in
+    let looks = looks_on a.assets.now a.stack.now p in
+    ap (λ (g : Canvas). g.writes) (c.paint_area.ensures.painted.once composes)
+    ∙ ap (λ (n : ℕ). (f.writes + n) % 2 ^ 64)
+    (points_in-same p (λ x y. is_open looks (drop (a.which + 1) a.stack.now) c.meet-area.result (point_at (pos x) (pos y))) (λ x y. in_patch_at looks a.stack.now a.which (point_at (pos x) (pos y))) c.width.ensures.shape (λ x y x_in y_in. open_is_patch c (point_at (pos x) (pos y))))
 
 -- where nothing is painted, the patch has no point
 no_patch : (c : goal.After-empty) (r : Point) → in_patch_at (looks_on c.args.assets.now c.args.stack.now c.args.target.now.picture) c.args.stack.now c.args.which r ≡ false
@@ -108,3 +120,10 @@ returns-clause-tiles c =
     let p = a.target.now.picture in
     let looks = looks_on a.assets.now a.stack.now p in
     tiles-empty p.width p.height (λ x y. in_patch_at looks a.stack.now a.which (point_at (pos x) (pos y))) c.empty.result (λ x y. no_patch c (point_at (pos x) (pos y))) c.empty.ensures
+
+pub returns-clause-once : goal.returns-clause-once
+returns-clause-once c composes =
+    let a = c.args in
+    let f = a.target.now in
+    let looks = looks_on a.assets.now a.stack.now f.picture in
+    no_more f.writes _ c.frame_is_sound.ensures.count (points_in-none f.picture (λ x y. in_patch_at looks a.stack.now a.which (point_at (pos x) (pos y))) c.width.ensures.shape (λ x y x_in y_in. no_patch c (point_at (pos x) (pos y))))

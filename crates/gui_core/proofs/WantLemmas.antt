@@ -1,0 +1,119 @@
+-- No step tells that there is no memory: what is held against calls is another reason, and effects refuse nothing.
+use Rattle.std.proofs.Common.{◌≡◌, ℕ, ◌+◌, ◌-◌, true, false, eqb, List, [], ◌∷◌, length, Option, Some, None, refl, sym, ap, ◌∙◌, inl, inr, arith}
+use Rattle.std.specs.List.{AllByRecursion}
+use Rattle.std.proofs.lemmas.Bool.{cases_Bool}
+use Rattle.context.specs.declared.context.Context.{Context}
+use Rattle.context.specs.Contexts.{Owned, owned_by}
+use Rattle.paint_ops.specs.Kinds.{Assets}
+use Rattle.scene.specs.declared.win.Win.{Win}
+use Rattle.strokes.specs.declared.shape.Shape.TheVariants as shape
+use Rattle.calls.specs.declared.call.Call.{Call}
+use Rattle.calls.specs.declared.call.Call.TheVariants.{Create, Delete, MoveTo, MoveBy, Resize, Show, Hide, ToTop, ToBottom, SetClass, Invalidate, InvalidateRect, SetTrans, SetMemdev, SetValue, Send, Select, DevSelect, Font, Save, Restore}
+use Rattle.calls.specs.declared.reply.Reply.{Reply}
+use Rattle.calls.specs.declared.reply.Reply.TheVariants.{Done, Handle, Jobs, Device, Refused}
+use Rattle.calls.specs.declared.reply.Refusal.{Refusal}
+use Rattle.gui_core.specs.Setups.{Setup}
+use Rattle.gui_core.specs.Devices.{DevicePicture}
+use Rattle.gui_core.specs.Drawing.{Work, Draw, Copy, Make, Discard, work_of}
+use Rattle.gui_core.specs.States.{State, Step, Objection, is_context_call, objections, context_objections, no_ground, work_objections, other_objections, objections_to, refusal_of, unless_refused, effect_of, step_of_call, is_want_of_memory}
+use Rattle.gui_core.specs.Machines.{Machine, Takes, IsUnmade}
+use Rattle.gui_core.proofs.SceneryLemmas.{no_effect_refuses}
+
+-- an objection that is no want of memory
+abbrev IsOther : Objection → Type 0
+IsOther o = is_want_of_memory (Refused o.1) ≡ false
+
+refusal_is_other : (os : List Objection) (r : Refusal) → AllByRecursion IsOther os → refusal_of os ≡ Some r → is_want_of_memory (Refused r) ≡ false
+refusal_is_other [] r all is = absurd cc
+refusal_is_other ((true, why) ∷ os) r all is = ap (λ (o : Option Refusal). is_want_of_memory (told o)) (sym is) ∙ all.0
+  where
+    told : Option Refusal → Reply
+    told None = Done
+    told (Some w) = Refused w
+refusal_is_other ((false, why) ∷ os) r all is = refusal_is_other os r all.1 is
+
+objections_are_other : (classes : ℕ) (ws : List Win) (call : Call) → AllByRecursion IsOther (objections classes ws call)
+objections_are_other classes ws (Create parent x y w h class) = (refl, (refl, (refl, (refl, (refl, tt)))))
+objections_are_other classes ws (Delete h) = (refl, (refl, tt))
+objections_are_other classes ws (MoveTo h x y) = (refl, (refl, tt))
+objections_are_other classes ws (MoveBy h dx dy) = (refl, (refl, tt))
+objections_are_other classes ws (Resize h width height) = (refl, (refl, (refl, tt)))
+objections_are_other classes ws (Show h) = (refl, (refl, tt))
+objections_are_other classes ws (Hide h) = (refl, (refl, tt))
+objections_are_other classes ws (ToTop h) = (refl, (refl, tt))
+objections_are_other classes ws (ToBottom h) = (refl, (refl, tt))
+objections_are_other classes ws (SetClass h class) = (refl, (refl, (refl, tt)))
+objections_are_other classes ws (SetTrans h trans) = (refl, (refl, tt))
+objections_are_other classes ws (SetMemdev h memdev) = (refl, tt)
+objections_are_other classes ws (SetValue h index value) = (refl, (refl, tt))
+objections_are_other classes ws (Send h message argument) = (refl, tt)
+objections_are_other classes ws (Invalidate h) = (refl, tt)
+objections_are_other classes ws (InvalidateRect h x0 y0 x1 y1) = (refl, tt)
+objections_are_other classes ws call = tt
+
+context_objections_are_other : (fonts : ℕ) (ws : List Win) (ds : List DevicePicture) (own : Owned) (call : Call) → AllByRecursion IsOther (context_objections fonts ws ds own call)
+context_objections_are_other fonts ws ds own (Select h) = (refl, tt)
+context_objections_are_other fonts ws ds own (DevSelect device) = (refl, tt)
+context_objections_are_other fonts ws ds own (Font font) = (refl, tt)
+context_objections_are_other fonts ws ds own Save = (refl, tt)
+context_objections_are_other fonts ws ds own Restore = (refl, tt)
+context_objections_are_other fonts ws ds own call = tt
+
+ground_is_other : (ws : List Win) (ds : List DevicePicture) (c : Context) → IsOther (no_ground ws ds c)
+ground_is_other ws ds c =
+    elim (cases_Bool (eqb c.device 0)) [
+      | inl screen ↦ rw screen refl
+      | inr device ↦ rw device refl
+    ]
+
+work_objections_are_other : (assets : Assets) (ws : List Win) (ds : List DevicePicture) (c : Context) (work : Work) → AllByRecursion IsOther (work_objections assets ws ds c work)
+work_objections_are_other assets ws ds c (Draw (shape.Fill x0 y0 x1 y1)) = (ground_is_other ws ds c, tt)
+work_objections_are_other assets ws ds c (Draw (shape.Frame x0 y0 x1 y1)) = (ground_is_other ws ds c, tt)
+work_objections_are_other assets ws ds c (Draw (shape.Line x0 y0 x1 y1)) = (ground_is_other ws ds c, tt)
+work_objections_are_other assets ws ds c (Draw (shape.Bitmap bitmap x y)) = (refl, (ground_is_other ws ds c, tt))
+work_objections_are_other assets ws ds c (Draw (shape.Text x y string)) = (refl, (refl, (ground_is_other ws ds c, tt)))
+work_objections_are_other assets ws ds c (Copy device x y) = (refl, (refl, tt))
+work_objections_are_other assets ws ds c (Make w h) = (refl, (refl, tt))
+work_objections_are_other assets ws ds c (Discard device) = (refl, tt)
+
+other_objections_are_other : (setup : Setup) (s : State) (actor : ℕ) (o : Option Work) (call : Call) → AllByRecursion IsOther (other_objections setup s actor o call)
+other_objections_are_other setup s actor None call = objections_are_other (length setup.assets.classes) s.windows call
+other_objections_are_other setup s actor (Some work) call = work_objections_are_other setup.assets s.windows s.devices.live (owned_by s.contexts actor).context work
+
+all_are_other : (setup : Setup) (s : State) (actor : ℕ) (call : Call) → AllByRecursion IsOther (objections_to setup s actor call)
+all_are_other setup s actor call =
+    elim (cases_Bool (is_context_call call)) [
+      | inl on ↦ rw on (context_objections_are_other (length setup.assets.fonts) s.windows s.devices.live (owned_by s.contexts actor) call)
+      | inr other ↦ rw other (other_objections_are_other setup s actor (work_of call) call)
+    ]
+
+not_refused_not_want : (reply : Reply) → ((r : Refusal) → reply ≡ Refused r → ⊥) → is_want_of_memory reply ≡ false
+not_refused_not_want Done fine = refl
+not_refused_not_want (Handle handle) fine = refl
+not_refused_not_want (Jobs count) fine = refl
+not_refused_not_want (Device device) fine = refl
+not_refused_not_want (Refused r) fine = absurd (fine r refl)
+
+pub no_step_wants : (setup : Setup) (s : State) (actor : ℕ) (call : Call) → is_want_of_memory (step_of_call setup s actor call).reply ≡ false
+no_step_wants setup s actor call = by_refusal (refusal_of (objections_to setup s actor call)) refl
+  where
+    by_refusal : (o : Option Refusal) → refusal_of (objections_to setup s actor call) ≡ o → is_want_of_memory (unless_refused o s (effect_of setup s actor call)).reply ≡ false
+    by_refusal None is = not_refused_not_want (effect_of setup s actor call).reply (no_effect_refuses setup s actor call)
+    by_refusal (Some r) is = refusal_is_other (objections_to setup s actor call) r (all_are_other setup s actor call) is
+
+pub taken_wants_nothing : (old new : Machine) (actor : ℕ) (call : Call) (reply : Reply) → Takes old actor call new reply → is_want_of_memory reply ≡ false
+taken_wants_nothing old new actor call reply takes = ap (λ (step : Step). is_want_of_memory step.reply) takes.step ∙ no_step_wants old.setup old.state actor call
+
+less_one : (n : ℕ) → n + 1 - 1 ≡ n
+less_one n = omega arith
+
+-- a call that isn't made isn't counted
+pub unmade_by : (old counted taken new : Machine) (actor : ℕ) (call : Call) → counted ≡ record old { made = old.made + 1 } → IsUnmade counted actor call taken → new ≡ record taken { made = taken.made - 1 } → IsUnmade old actor call new
+unmade_by old counted taken new actor call once unmade back = record {
+  unchanged =
+      back
+      ∙ ap (λ (m : Machine). record m { made = m.made - 1 }) (unmade.unchanged ∙ once)
+      ∙ ap (λ (n : ℕ). record old { made = n }) (less_one old.made);
+  makes = unmade.makes;
+  free = ap (λ (m : Machine). refusal_of (objections_to m.setup m.state actor call)) (sym once) ∙ unmade.free;
+}
