@@ -1,0 +1,8 @@
+mod RunLaws
+mod ColumnLemmas
+mod PartLaws
+mod RowLemmas
+mod RunTextLaws
+mod FrameTextLaws
+mod PieceLaws
+mod TextLemmas
