@@ -21,6 +21,7 @@ mod MemdevLemmas
 mod DamageLemmas
 mod SceneryLemmas
 mod WantLemmas
+mod HandleLemmas
 mod CallLemmas
 mod ContextLemmas
 pub mod CallerLemmas

@@ -1,6 +1,6 @@
 //! Laws of the definitions, each as the contract of a function that does nothing.
 
-ghost use Rattle.std.specs.Prelude.{◌≡◌, ◌≤◌, ℕ, false, List};
+ghost use Rattle.std.specs.Prelude.{◌≡◌, ◌≤◌, ℕ, None, false, List};
 ghost use Rattle.std.specs.List.{AllByRecursion, list_any};
 ghost use Rattle.gfx_base.specs.declared.point.Point.{Point};
 ghost use Rattle.scene.specs.declared.win.Win.{Win};
@@ -8,6 +8,7 @@ ghost use Rattle.scene.specs.Painting.{windows_at, visible, painted_over, painte
 ghost use Rattle.context.specs.Contexts.{owned_by};
 ghost use Rattle.calls.specs.declared.entry.Entry.{Entry};
 ghost use Rattle.calls.specs.declared.entry.Entry.TheVariants as entry;
+ghost use Rattle.gui_core.specs.Devices.{picture_on};
 ghost use Rattle.gui_core.specs.Setups.{Setup, looks_of, painter};
 ghost use Rattle.gui_core.specs.States.{State, latest, opening, step, state_after};
 ghost use Rattle.gui_core.specs.Stains.{Stain, no_stain, stained, stain_after, draws};
@@ -66,4 +67,12 @@ pub fn contexts_are_separate()
         → owned_by (state_after setup s es).contexts task ≡ owned_by s.contexts task }
     ensures rest { (setup : Setup) (s : State) (e : Entry) → changes_contexts e ≡ false
         → (step setup s e).state.contexts ≡ s.contexts }
+{}
+
+/// Does nothing. A handle that was given out, and whose device is gone, finds no device after any
+/// further calls: the handle of a device is never used again.
+pub fn device_handles_are_never_used_again()
+    ensures { (setup : Setup) (s : State) (es : List Entry) (handle : ℕ)
+        → handle ≤ s.devices.handles → picture_on s.devices.live handle ≡ None
+        → picture_on (state_after setup s es).devices.live handle ≡ None }
 {}

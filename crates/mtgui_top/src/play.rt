@@ -297,8 +297,9 @@ pub fn plain_words<S: Store, K: Sink>(
 ) -> u8
     ensures words { (result ≡ 2)
         ↔ ((verb : Verb) (name : List ℕ) → IsCommand verb words.now name → ⊥) }
-    // The file is a script, and its play text was written, which at each scan at which no window
-    // waits to be painted has the painter's picture of the windows.
+    // The file is a script, and its play text was written, which at each scan at which no window is
+    // invalid has the painter's picture of the windows, at each point that no task drew since it
+    // was painted.
     ensures played { result ≡ 0 → (name : List ℕ) → IsCommand Verb.Play words.now name
         → (file : List ℕ) × (script : Script) × IsFile (S.log store.old).files name file
         × IsScript file script × ScansShowPainter script

@@ -29,7 +29,7 @@ pub enum Reason {
     Call,
     /// It gives back a lock that its task doesn't hold, or takes the 101st.
     Lock,
-    /// It is one call too many.
+    /// It is one call line too many.
     Many,
     /// The file ends before it, in the header, in a block or with an open lock.
     End,

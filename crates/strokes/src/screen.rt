@@ -78,8 +78,8 @@ fn stroke_tiles(
     }
 }
 
-/// Draws a shape with the context in the window at `i`, which is the one that the context selects:
-/// its coordinates are counted from the window's upper left corner, and only points that the window
+/// Draws a shape with the context in the window at `i`, whichever the context selects: its
+/// coordinates are counted from the window's upper left corner, and only points that the window
 /// sees change. The answer has just the tiles that hold a point that was put down. The target has
 /// the screen's sides; there are at most 256 windows, each with sides of at most 4,096 points and
 /// with a class that exists, and no handle stands twice. The assets have what the shape names, and
