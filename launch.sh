@@ -4,10 +4,9 @@
 # sources.
 launch() {
     name=$(basename "$0")
-    folder=$top/crates/$1
-    program=$folder/out/$1
+    program=$top/crates/$1/out/$1
+    is_current || build "$1"
     shift
-    is_current || build
     exec "$program" "$@"
 }
 
@@ -17,15 +16,54 @@ is_current() {
     [ -z "$newer" ]
 }
 
+# The libraries that a crate stands on, a line for those that can be proved side by side: they use the lines before alone.
+libraries() {
+    awk -v wanted="$1" '
+        function level(crate,   used, count, i, below, most) {
+            if (crate in levels) return levels[crate]
+            count = split(uses[crate], used, " ")
+            for (i = 1; i <= count; i++)
+                if (used[i] in uses && (below = level(used[i])) > most) most = below
+            levels[crate] = most + 1
+            if (crate != wanted) lines[most + 1] = lines[most + 1] " " crate
+            return most + 1
+        }
+        !/^#/ && /:/ { crate = $1; sub(/:.*/, "", crate); sub(/^[^:]*:/, ""); uses[crate] = $0 }
+        END { last = level(wanted); for (i = 1; i < last; i++) print lines[i] }
+    ' "$top/crates.txt"
+}
+
+# Proves and builds a library, and says which one on the standard error.
+prove() {
+    crate=$1
+    echo "$name: proving $crate, $(find "$proved" -type f | wc -l) of $count done" >&2
+    if ! messages=$(cd "$top/crates/$crate" && rt lib 2>&1); then
+        printf '%s\n' "$messages" >&2
+        echo "$name: $crate could not be proved and built" >&2
+        return 1
+    fi
+    : > "$proved/$crate"
+}
+
+# Proves and builds the program of a crate with all that it stands on.
 build() {
-    echo "$name: proving and building the program; the first time this takes minutes" >&2
     rm -f "$program"
+    proved=$(mktemp -d) || exit 1
+    trap 'rm -rf "$proved"' EXIT
+    count=$(libraries "$1" | wc -w)
+    echo "$name: proving and building $count libraries and the program; the first time this takes minutes" >&2
+    export top name proved count
+    libraries "$1" | while read -r line; do
+        printf '%s\n' $line | xargs -P "$(nproc)" -I CRATE sh -c '. "$top/launch.sh"; prove CRATE || exit 255' || exit 1
+    done || exit 1
     # It is run without words and without input, so its status says nothing of the build.
-    messages=$(cd "$folder" && rt run 2>&1 </dev/null)
+    messages=$(cd "$top/crates/$1" && rt run 2>&1 </dev/null)
     if [ ! -x "$program" ]; then
         printf '%s\n' "$messages" >&2
         echo "$name: the program could not be built" >&2
         exit 1
     fi
     touch "$program"
+    rm -rf "$proved"
+    trap - EXIT
 }
