@@ -16,20 +16,17 @@ is_current() {
     [ -z "$newer" ]
 }
 
-# The libraries that a crate stands on, a line for those that can be proved side by side: they use the lines before alone.
+# The libraries that a crate stands on, one a line, each after those that it uses itself.
 libraries() {
     awk -v wanted="$1" '
-        function level(crate,   used, count, i, below, most) {
-            if (crate in levels) return levels[crate]
+        function visit(crate,   used, count, i) {
+            if (!(crate in uses) || seen[crate]++) return
             count = split(uses[crate], used, " ")
-            for (i = 1; i <= count; i++)
-                if (used[i] in uses && (below = level(used[i])) > most) most = below
-            levels[crate] = most + 1
-            if (crate != wanted) lines[most + 1] = lines[most + 1] " " crate
-            return most + 1
+            for (i = 1; i <= count; i++) visit(used[i])
+            if (crate != wanted) print crate
         }
         !/^#/ && /:/ { crate = $1; sub(/:.*/, "", crate); sub(/^[^:]*:/, ""); uses[crate] = $0 }
-        END { last = level(wanted); for (i = 1; i < last; i++) print lines[i] }
+        END { visit(wanted) }
     ' "$top/crates.txt"
 }
 
@@ -50,12 +47,11 @@ build() {
     rm -f "$program"
     proved=$(mktemp -d) || exit 1
     trap 'rm -rf "$proved"' EXIT
-    count=$(libraries "$1" | wc -w)
+    count=$(libraries "$1" | wc -l)
     echo "$name: proving and building $count libraries and the program; the first time this takes minutes" >&2
     export top name proved count
-    libraries "$1" | while read -r line; do
-        printf '%s\n' $line | xargs -P "$(nproc)" -I CRATE sh -c '. "$top/launch.sh"; prove CRATE || exit 255' || exit 1
-    done || exit 1
+    # A library whose own ones are still at work waits for them.
+    libraries "$1" | xargs -P "$(nproc)" -I CRATE sh -c '. "$top/launch.sh"; prove CRATE || exit 255' || exit 1
     # It is run without words and without input, so its status says nothing of the build.
     messages=$(cd "$top/crates/$1" && rt run 2>&1 </dev/null)
     if [ ! -x "$program" ]; then
