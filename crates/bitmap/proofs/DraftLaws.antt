@@ -12,7 +12,7 @@ use Rattle.bitmap.specs.declared.place.Place.{Place}
 use Rattle.bitmap.specs.declared.place.Place.TheVariants.{AfterRows, AfterEnd}
 use Rattle.bitmap.specs.declared.fault.BitmapWhy.{BitmapWhy}
 use Rattle.bitmap.specs.Texts.{AreRows, AreLinesOf}
-use Rattle.bitmap.specs.Faults.{IsFront}
+use Rattle.bitmap.specs.Faults.{IsPrefix}
 use Rattle.bitmap.specs.Reading.{Draft, start, row_of, with_row, after_end, after_at, after_line, is_end, is_whole, bitmap_of, rows_at, IsDraft, or_why, line_step}
 use Rattle.bitmap.proofs.RowLaws.{row_takes, one_more}
 
@@ -127,7 +127,7 @@ closing (AfterRows many) = []
 closing AfterEnd = codes "end" ∷ []
 
 -- the draft at this place, after these lines
-pub record StandsAt (width height : ℕ) (at : Place) (d : Draft) (front : List (List ℕ)) : Type 0 where
+pub record StandsAt (width height : ℕ) (at : Place) (d : Draft) (prefix : List (List ℕ)) : Type 0 where
   pub wide : d.width ≡ width
   pub high : d.height ≡ height
   pub before : List (List ℕ)
@@ -136,21 +136,21 @@ pub record StandsAt (width height : ℕ) (at : Place) (d : Draft) (front : List 
   pub count : length rows ≡ rows_at height at
   pub few : length rows ≤ height
   pub shown : d.points ≡ joined rows
-  pub spelled : front ≡ before ++ closing at
+  pub spelled : prefix ≡ before ++ closing at
 
 abbrev pub Stands : ℕ → ℕ → Draft → List (List ℕ) → Type 0
-Stands width height d front = StandsAt width height d.place d front
+Stands width height d prefix = StandsAt width height d.place d prefix
 
 start_stands : (width height : ℕ) → Stands width height (start width height) []
 start_stands width height = record { wide = refl; high = refl; before = []; rows = []; each = tt; count = refl; few = omega arith; shown = refl; spelled = refl }
 
-line_stands : (width height : ℕ) (d e : Draft) (many : ℕ) (front : List (List ℕ)) (line : List ℕ) → StandsAt width height (AfterRows many) d front → Line d e many line → Stands width height e (front ++ line ∷ [])
-line_stands width height d e many front line was (a_row row less read same) =
+line_stands : (width height : ℕ) (d e : Draft) (many : ℕ) (prefix : List (List ℕ)) (line : List ℕ) → StandsAt width height (AfterRows many) d prefix → Line d e many line → Stands width height e (prefix ++ line ∷ [])
+line_stands width height d e many prefix line was (a_row row less read same) =
     let t = row_takes width line row (subst (λ (n : ℕ). row_of n line ≡ Some row) was.wide read) in
     let more = length-append was.rows (row ∷ []) in
     let count = was.count in
     let high = was.high in
-    subst (λ (x : Draft). Stands width height x (front ++ line ∷ [])) same (record {
+    subst (λ (x : Draft). Stands width height x (prefix ++ line ∷ [])) same (record {
       wide = was.wide;
       high = was.high;
       before = was.before ++ line ∷ [];
@@ -161,11 +161,11 @@ line_stands width height d e many front line was (a_row row less read same) =
       shown = ap (λ (ps : List (Option ℕ)). ps ++ row) was.shown ∙ ap (λ (ps : List (Option ℕ)). joined was.rows ++ ps) (sym (append-nil row)) ∙ sym (flat_map-append (λ (r : List (Option ℕ)). r) was.rows (row ∷ []));
       spelled = ap (λ (ls : List (List ℕ)). ls ++ line ∷ []) (was.spelled ∙ append-nil was.before) ∙ sym (append-nil (was.before ++ line ∷ []));
     })
-line_stands width height d e many front line was (the_end more spelled same) =
+line_stands width height d e many prefix line was (the_end more spelled same) =
     let count = was.count in
     let few = was.few in
     let high = was.high in
-    subst (λ (x : Draft). Stands width height x (front ++ line ∷ [])) same (record {
+    subst (λ (x : Draft). Stands width height x (prefix ++ line ∷ [])) same (record {
       wide = was.wide;
       high = was.high;
       before = was.before;
@@ -177,24 +177,24 @@ line_stands width height d e many front line was (the_end more spelled same) =
       spelled = ap (λ (ls : List (List ℕ)). ls ++ line ∷ []) (was.spelled ∙ append-nil was.before) ∙ ap (λ (l : List ℕ). was.before ++ l ∷ []) spelled;
     })
 
-stands_at : (width height : ℕ) (at : Place) (d e : Draft) (front : List (List ℕ)) (line : List ℕ) → StandsAt width height at d front → after_at at d line ≡ Some e → Stands width height e (front ++ line ∷ [])
-stands_at width height (AfterRows many) d e front line was is = line_stands width height d e many front line was (line_at d e many line is)
-stands_at width height AfterEnd d e front line was is = absurd cc
+stands_at : (width height : ℕ) (at : Place) (d e : Draft) (prefix : List (List ℕ)) (line : List ℕ) → StandsAt width height at d prefix → after_at at d line ≡ Some e → Stands width height e (prefix ++ line ∷ [])
+stands_at width height (AfterRows many) d e prefix line was is = line_stands width height d e many prefix line was (line_at d e many line is)
+stands_at width height AfterEnd d e prefix line was is = absurd cc
 
-step : (width height : ℕ) (d e : Draft) (front : List (List ℕ)) (line : List ℕ) → Stands width height d front → after_line d line ≡ Some e → Stands width height e (front ++ line ∷ [])
+step : (width height : ℕ) (d e : Draft) (prefix : List (List ℕ)) (line : List ℕ) → Stands width height d prefix → after_line d line ≡ Some e → Stands width height e (prefix ++ line ∷ [])
 unfolding after_line
-step width height d e front line was is = stands_at width height d.place d e front line was is
+step width height d e prefix line was is = stands_at width height d.place d e prefix line was is
 
 taken : (reason : BitmapWhy) (o : Option Draft) (e : Draft) → or_why reason o ≡ Ok e → o ≡ Some e
 taken reason None e is = absurd cc
 taken reason (Some d) e is = cc
 
-stands_after : (width height : ℕ) (d e : Draft) (front lines : List (List ℕ)) → Stands width height d front → run line_step d lines ≡ Ok e → Stands width height e (front ++ lines)
-stands_after width height d e front [] was is = let same : d ≡ e = cc in subst (Stands width height e) (sym (append-nil front)) (subst (λ (x : Draft). Stands width height x front) same was)
-stands_after width height d e front (line ∷ lines) was is =
+stands_after : (width height : ℕ) (d e : Draft) (prefix lines : List (List ℕ)) → Stands width height d prefix → run line_step d lines ≡ Ok e → Stands width height e (prefix ++ lines)
+stands_after width height d e prefix [] was is = let same : d ≡ e = cc in subst (Stands width height e) (sym (append-nil prefix)) (subst (λ (x : Draft). Stands width height x prefix) same was)
+stands_after width height d e prefix (line ∷ lines) was is =
     let next = on_ok (line_step d line) (λ next. run line_step next lines) e is in
     let after : after_line d line ≡ Some next.0 = taken _ (after_line d line) next.0 next.1 in
-    subst (Stands width height e) (append_assoc front (line ∷ []) lines) (stands_after width height next.0 e (front ++ line ∷ []) lines (step width height d next.0 front line was after) next.2)
+    subst (Stands width height e) (append_assoc prefix (line ∷ []) lines) (stands_after width height next.0 e (prefix ++ line ∷ []) lines (step width height d next.0 prefix line was after) next.2)
 
 pub read_stands : (width height : ℕ) (lines : List (List ℕ)) (d : Draft) → run line_step (start width height) lines ≡ Ok d → Stands width height d lines
 read_stands width height lines d is = stands_after width height (start width height) d [] lines (start_stands width height) is
@@ -204,12 +204,12 @@ sides_after width height lines d is = let was = read_stands width height lines d
 
 -- ---- what was read
 
-pub front_at : (width height : ℕ) (at : Place) (d : Draft) (front : List (List ℕ)) → StandsAt width height at d front → IsFront width height front at
-front_at width height (AfterRows many) d front was =
+pub prefix_at : (width height : ℕ) (at : Place) (d : Draft) (prefix : List (List ℕ)) → StandsAt width height at d prefix → IsPrefix width height prefix at
+prefix_at width height (AfterRows many) d prefix was =
     let count = was.count in
     let few = was.few in
     record { rows = was.rows; each = subst (λ (ls : List (List ℕ)). AreRows width ls was.rows) (sym (was.spelled ∙ append-nil was.before)) was.each; count = was.count; few = omega arith }
-front_at width height AfterEnd d front was = record { before = was.before; rows = was.rows; each = was.each; count = was.count; spelled = was.spelled }
+prefix_at width height AfterEnd d prefix was = record { before = was.before; rows = was.rows; each = was.each; count = was.count; spelled = was.spelled }
 
 pub whole_says : (width height : ℕ) (lines : List (List ℕ)) (d : Draft) → run line_step (start width height) lines ≡ Ok d → d.place ≡ AfterEnd → AreLinesOf width height lines (bitmap_of d)
 whole_says width height lines d is whole =

@@ -15,10 +15,10 @@ use Rattle.bitmap.specs.declared.fault.BitmapRefused.{BitmapRefused}
 use Rattle.bitmap.specs.declared.fault.BitmapRefused.TheVariants as refused
 use Rattle.bitmap.specs.Bitmaps.{Bitmap}
 use Rattle.bitmap.specs.Texts.{AreRows, AreLinesOf, IsBody}
-use Rattle.bitmap.specs.Faults.{IsFront, IsFault, IsRefused, WhyAt, why_at, why_cut}
+use Rattle.bitmap.specs.Faults.{IsPrefix, IsFault, IsRefused, WhyAt, why_at, why_cut}
 use Rattle.bitmap.specs.Reading.{Draft, start, row_of, after_line, bitmap_of, or_why, line_step, place_of, from_line, read_of, Says, SaysBitmap}
 use Rattle.bitmap.proofs.RowLaws.{row_again, as_many}
-use Rattle.bitmap.proofs.DraftLaws.{joined, read_stands, sides_after, front_at, whole_says}
+use Rattle.bitmap.proofs.DraftLaws.{joined, read_stands, sides_after, prefix_at, whole_says}
 
 -- ---- a bitmap's lines are read
 
@@ -51,32 +51,32 @@ goes_on d e line more is = ap (λ (r : Result Draft BitmapWhy). on r (λ next. r
 abbrev fine : Draft → Result Draft BitmapWhy
 fine d = Ok d
 
-rows_run : (width height many : ℕ) (points : List (Option ℕ)) (front : List (List ℕ)) (rows : List (List (Option ℕ))) → AreRows width front rows → many + length rows ≤ height → run line_step (rowed width height many points) front ≡ Ok (rowed width height (many + length rows) (points ++ joined rows))
+rows_run : (width height many : ℕ) (points : List (Option ℕ)) (prefix : List (List ℕ)) (rows : List (List (Option ℕ))) → AreRows width prefix rows → many + length rows ≤ height → run line_step (rowed width height many points) prefix ≡ Ok (rowed width height (many + length rows) (points ++ joined rows))
 rows_run width height many points [] [] each few = ap fine (same_rowed width height many (many + 0) points (points ++ []) (omega arith) (sym (append-nil points)))
 rows_run width height many points [] (row ∷ rows) each few = absurd each
-rows_run width height many points (line ∷ front) [] each few = absurd each
-rows_run width height many points (line ∷ front) (row ∷ rows) each few =
+rows_run width height many points (line ∷ prefix) [] each few = absurd each
+rows_run width height many points (line ∷ prefix) (row ∷ rows) each few =
     let next : Draft = rowed width height (many + 1) (points ++ row) in
-    goes_on (rowed width height many points) next line front (takes_row width height many points row line (omega arith) (row_again width line row each.0 each.1)) ∙ rows_run width height (many + 1) (points ++ row) front rows each.2 (omega arith)
+    goes_on (rowed width height many points) next line prefix (takes_row width height many points row line (omega arith) (row_again width line row each.0 each.1)) ∙ rows_run width height (many + 1) (points ++ row) prefix rows each.2 (omega arith)
     ∙ ap fine (same_rowed width height (many + 1 + length rows) (many + length (row ∷ rows)) ((points ++ row) ++ joined rows) (points ++ joined (row ∷ rows)) (omega arith) (append_assoc points row (joined rows)))
 
-front_run : (width height many : ℕ) (front : List (List ℕ)) (rows : List (List (Option ℕ))) → AreRows width front rows → length rows ≡ many → many ≤ height → run line_step (start width height) front ≡ Ok (rowed width height many (joined rows))
-front_run width height many front rows each count few =
-    rows_run width height 0 [] front rows each (omega arith) ∙ ap fine (same_rowed width height (0 + length rows) many (joined rows) (joined rows) (omega arith) refl)
+prefix_run : (width height many : ℕ) (prefix : List (List ℕ)) (rows : List (List (Option ℕ))) → AreRows width prefix rows → length rows ≡ many → many ≤ height → run line_step (start width height) prefix ≡ Ok (rowed width height many (joined rows))
+prefix_run width height many prefix rows each count few =
+    rows_run width height 0 [] prefix rows each (omega arith) ∙ ap fine (same_rowed width height (0 + length rows) many (joined rows) (joined rows) (omega arith) refl)
 
 all_run : (width height : ℕ) (lines before : List (List ℕ)) (rows : List (List (Option ℕ))) → AreRows width before rows → length rows ≡ height → lines ≡ before ++ codes "end" ∷ [] → run line_step (start width height) lines ≡ Ok (ended width height (joined rows))
 all_run width height lines before rows each count spelled =
     let last : Draft = rowed width height height (joined rows) in
-    ap (run line_step (start width height)) spelled ∙ run_on line_step (start width height) last before (codes "end" ∷ []) (front_run width height height before rows each count (omega arith))
+    ap (run line_step (start width height)) spelled ∙ run_on line_step (start width height) last before (codes "end" ∷ []) (prefix_run width height height before rows each count (omega arith))
     ∙ goes_on last (ended width height (joined rows)) (codes "end") [] (takes_end width height (joined rows))
 
--- what is read of a front
+-- what is read of a prefix
 abbrev IsReadAs : ℕ → ℕ → List (List ℕ) → Place → Type 0
-IsReadAs width height front place = (d : Draft) × (run line_step (start width height) front ≡ Ok d) × (place_of d ≡ place)
+IsReadAs width height prefix place = (d : Draft) × (run line_step (start width height) prefix ≡ Ok d) × (place_of d ≡ place)
 
-front_read : (width height : ℕ) (front : List (List ℕ)) (place : Place) → IsFront width height front place → IsReadAs width height front place
-front_read width height front (AfterRows many) is = (rowed width height many (joined is.rows), front_run width height many front is.rows is.each is.count is.few, refl)
-front_read width height front AfterEnd is = (ended width height (joined is.rows), all_run width height front is.before is.rows is.each is.count is.spelled, refl)
+prefix_read : (width height : ℕ) (prefix : List (List ℕ)) (place : Place) → IsPrefix width height prefix place → IsReadAs width height prefix place
+prefix_read width height prefix (AfterRows many) is = (rowed width height many (joined is.rows), prefix_run width height many prefix is.rows is.each is.count is.few, refl)
+prefix_read width height prefix AfterEnd is = (ended width height (joined is.rows), all_run width height prefix is.before is.rows is.each is.count is.spelled, refl)
 
 abbrev bitmap_with : ℕ → ℕ → List (Option ℕ) → Bitmap
 bitmap_with width height points = record { width = width; height = height; points = points }
@@ -91,18 +91,18 @@ whole_read width height lines b is =
       ap (λ (w : ℕ). bitmap_with w height points) (sym is.wide) ∙ ap (λ (h : ℕ). bitmap_with b.width h points) (sym is.high) ∙ ap (bitmap_with b.width b.height) (sym is.shown),
     )
 
--- ---- the step reads the fronts
+-- ---- the step reads the prefixes
 
 refused_by : (why : BitmapWhy) (o : Option Draft) (reason : BitmapWhy) → or_why why o ≡ Err reason → reason ≡ why
 refused_by why None reason is = cc
 refused_by why (Some d) reason is = absurd cc
 
-pub reading : (width height : ℕ) → IsReading line_step (start width height) place_of (IsFront width height) (WhyAt height)
+pub reading : (width height : ℕ) → IsReading line_step (start width height) place_of (IsPrefix width height) (WhyAt height)
 reading width height = record {
-  sound = λ xs d is. front_at width height d.place d xs (read_stands width height xs d is);
-  complete = λ xs place front. front_read width height xs place front;
+  sound = λ xs d is. prefix_at width height d.place d xs (read_stands width height xs d is);
+  complete = λ xs place prefix. prefix_read width height xs place prefix;
   reasons = λ xs d line reason is wrong. refused_by (why_at d.height d.place) (after_line d line) reason wrong ∙ ap (λ (h : ℕ). why_at h d.place) (sides_after width height xs d is).1;
-  one_reason = λ xs place line r s front longer is also. is ∙ sym also;
+  one_reason = λ xs place line r s prefix longer is also. is ∙ sym also;
 }
 
 -- ---- what reading says
@@ -112,11 +112,11 @@ uncut (AfterRows many) is = absurd cc
 uncut AfterEnd is = refl
 
 abbrev Says_of : ℕ → ℕ → List ℕ → Result Draft (ℕ × BitmapWhy) → Type 0
-Says_of width height body r = lines.Describes line_step (start width height) place_of (IsFront width height) (WhyAt height) why_cut (lines_of body) r
+Says_of width height body r = lines.Describes line_step (start width height) place_of (IsPrefix width height) (WhyAt height) why_cut (lines_of body) r
 
 says : (width height : ℕ) (body : List ℕ) → Says_of width height body (read_of width height body)
 unfolding read_of
-says width height body = lines.read_says line_step (start width height) place_of (IsFront width height) (WhyAt height) why_cut (reading width height) (lines_of body)
+says width height body = lines.read_says line_step (start width height) place_of (IsPrefix width height) (WhyAt height) why_cut (reading width height) (lines_of body)
 
 pub is_fault : (width height : ℕ) (body : List ℕ) (fault : BitmapFault) → read_of width height body ≡ Err (fault.line, fault.why) → IsFault width height body fault
 is_fault width height body fault is = subst (Says_of width height body) is (says width height body)
@@ -133,17 +133,17 @@ is_answer width height body (Err (refused.Fault fault)) is = is_fault width heig
 
 pub either : (width height : ℕ) (body : List ℕ) → ((b : Bitmap) × IsBody width height body b) ⊎ ((fault : BitmapFault) × IsFault width height body fault)
 either width height body =
-    elim (lines.either line_step (start width height) place_of (IsFront width height) (WhyAt height) why_cut (reading width height) (lines_of body)) [
+    elim (lines.either line_step (start width height) place_of (IsPrefix width height) (WhyAt height) why_cut (reading width height) (lines_of body)) [
       | inl whole ↦ inl (bitmap_of whole.0, whole_says width height (lines_of body) whole.0 whole.1 (uncut whole.0.place whole.2))
       | inr fault ↦ inr (record { line = fault.0; why = fault.1 }, fault.2)
     ]
 
-front_of : (width height : ℕ) (body : List ℕ) (b : Bitmap) → IsBody width height body b → IsFront width height (lines_of body) AfterEnd
-front_of width height body b is = record { before = is.before; rows = is.rows; each = is.each; count = is.count; spelled = is.spelled }
+prefix_of : (width height : ℕ) (body : List ℕ) (b : Bitmap) → IsBody width height body b → IsPrefix width height (lines_of body) AfterEnd
+prefix_of width height body b is = record { before = is.before; rows = is.rows; each = is.each; count = is.count; spelled = is.spelled }
 
 pub not_both : (width height : ℕ) (body : List ℕ) (b : Bitmap) (fault : BitmapFault) → IsBody width height body b → IsFault width height body fault → ⊥
 not_both width height body b fault is wrong =
-    lines.not_both line_step (start width height) place_of (IsFront width height) (WhyAt height) why_cut (reading width height) (lines_of body) AfterEnd fault.line fault.why (front_of width height body b is) refl wrong
+    lines.not_both line_step (start width height) place_of (IsPrefix width height) (WhyAt height) why_cut (reading width height) (lines_of body) AfterEnd fault.line fault.why (prefix_of width height body b is) refl wrong
 
 -- ---- one of either
 
@@ -164,19 +164,19 @@ fault_at line reason = record { line = line; why = reason }
 
 pub one_fault : (width height : ℕ) (body : List ℕ) (a b : BitmapFault) → IsFault width height body a → IsFault width height body b → a ≡ b
 one_fault width height body a b is also =
-    let same = lines.one_fault line_step (start width height) place_of (IsFront width height) (WhyAt height) why_cut (reading width height) (lines_of body) a.line b.line a.why b.why is also in
+    let same = lines.one_fault line_step (start width height) place_of (IsPrefix width height) (WhyAt height) why_cut (reading width height) (lines_of body) a.line b.line a.why b.why is also in
     ap (λ (n : ℕ). fault_at n a.why) same.0 ∙ ap (fault_at b.line) same.1
 
 -- ---- a bitmap's lines before others
 
-same_fronts : (xs ys bs cs : List (List ℕ)) → length xs ≡ length bs → xs ++ ys ≡ bs ++ cs → (xs ≡ bs) × (ys ≡ cs)
-same_fronts [] ys [] cs many is = (refl, is)
-same_fronts [] ys (b ∷ bs) cs many is = absurd (omega arith)
-same_fronts (x ∷ xs) ys [] cs many is = absurd (omega arith)
-same_fronts (x ∷ xs) ys (b ∷ bs) cs many is =
+same_prefixes : (xs ys bs cs : List (List ℕ)) → length xs ≡ length bs → xs ++ ys ≡ bs ++ cs → (xs ≡ bs) × (ys ≡ cs)
+same_prefixes [] ys [] cs many is = (refl, is)
+same_prefixes [] ys (b ∷ bs) cs many is = absurd (omega arith)
+same_prefixes (x ∷ xs) ys [] cs many is = absurd (omega arith)
+same_prefixes (x ∷ xs) ys (b ∷ bs) cs many is =
     let head : x ≡ b = cc in
     let tail : xs ++ ys ≡ bs ++ cs = cc in
-    let more = same_fronts xs ys bs cs (omega arith) tail in
+    let more = same_prefixes xs ys bs cs (omega arith) tail in
     (cc (head, more.0), more.1)
 
 many_lines : (width height : ℕ) (lines : List (List ℕ)) (b : Bitmap) → AreLinesOf width height lines b → length lines ≡ height + 1
@@ -190,7 +190,7 @@ many_lines width height lines b is =
 -- lines that begin with a bitmap's begin with no other's
 pub apart : (width height : ℕ) (xs ys bs cs : List (List ℕ)) (a b : Bitmap) → AreLinesOf width height xs a → AreLinesOf width height bs b → xs ++ ys ≡ bs ++ cs → (a ≡ b) × (ys ≡ cs)
 apart width height xs ys bs cs a b is also same =
-    let parts = same_fronts xs ys bs cs (many_lines width height xs a is ∙ sym (many_lines width height bs b also)) same in
+    let parts = same_prefixes xs ys bs cs (many_lines width height xs a is ∙ sym (many_lines width height bs b also)) same in
     (one_of_lines width height bs a b (subst (λ (ls : List (List ℕ)). AreLinesOf width height ls a) parts.0 is) also, parts.1)
 
 -- ---- for the loop

@@ -30,9 +30,9 @@ pub record AreAll (width height : ℕ) (lines : List (List ℕ)) : Type 0 where
 
 -- the lines are the first ones of a bitmap, and after them stands this place: after so many rows,
 -- or after the line `end`
-abbrev pub IsFront : ℕ → ℕ → List (List ℕ) → Place → Type 0
-IsFront width height lines (AfterRows many) = AreFirstRows width height lines many
-IsFront width height lines AfterEnd = AreAll width height lines
+abbrev pub IsPrefix : ℕ → ℕ → List (List ℕ) → Place → Type 0
+IsPrefix width height lines (AfterRows many) = AreFirstRows width height lines many
+IsPrefix width height lines AfterEnd = AreAll width height lines
 
 -- ---- faults
 
@@ -50,10 +50,10 @@ why_cut AfterEnd = None
 abbrev pub WhyAt : ℕ → Place → List ℕ → BitmapWhy → Type 0
 WhyAt height place line reason = reason ≡ why_at height place
 
--- the longest front of a bitmap, and then a line that is wrong, or the end
+-- the longest prefix of a bitmap, and then a line that is wrong, or the end
 abbrev pub IsFault : ℕ → ℕ → List ℕ → BitmapFault → Type 0
 IsFault width height body fault =
-    IsFirstFault (IsFront width height) (WhyAt height) why_cut (lines_of body) fault.line fault.why
+    IsFirstFault (IsPrefix width height) (WhyAt height) why_cut (lines_of body) fault.line fault.why
 
 -- a refusal tells the fault; of one for want of memory nothing is said
 abbrev pub IsRefused : ℕ → ℕ → List ℕ → BitmapRefused → Type 0

@@ -29,6 +29,8 @@ pub enum Refusal {
     NoDevice(u32),
     /// 16 devices live already.
     TooManyDevices,
+    /// As many calls were made as the core was opened for.
+    Full,
     /// There is no memory for a device.
     Memory,
 }

@@ -175,8 +175,8 @@ reaction_takes words line e =
     let on = bind_some (natural_at 0 255 rest.0) _ line rest.2 in
     let d = bind_some (deed_of on.0.1) _ line on.2 in
     let t = natural_at_takes 0 255 rest.0 on.0 on.1 in
-    let front : words ≡ codes "on" ∷ decimal on.0.0 ∷ on.0.1 = after_word_takes (codes "on") words rest.0 rest.1 ∙ onto (codes "on") _ _ t.0 in
-    subst (λ (ws : List (List ℕ)). IsSpelled ws line) (sym front) (reacting_takes on.0.1 on.0.0 d.0 line t.2 d.1 d.2)
+    let prefix : words ≡ codes "on" ∷ decimal on.0.0 ∷ on.0.1 = after_word_takes (codes "on") words rest.0 rest.1 ∙ onto (codes "on") _ _ t.0 in
+    subst (λ (ws : List (List ℕ)). IsSpelled ws line) (sym prefix) (reacting_takes on.0.1 on.0.0 d.0 line t.2 d.1 d.2)
 
 line_takes : (words : List (List ℕ)) (line : ClassLine) → class_line_of words ≡ Some line → IsSpelled words line
 unfolding class_line_of

@@ -292,15 +292,15 @@ fn a_full_sink_ends_a_command(rt: HostRuntime) -> Result<(), Fail> {
 }
 
 /// How the play of the first script ends where the write of this number fails: whether with the
-/// status of a sink fault after a front of its text, or with status 0 after all of it.
+/// status of a sink fault after a prefix of its text, or with status 0 after all of it.
 fn play_with_failed_write(alloc: Global, number: u64) -> Result<Option<u8>, Fail> {
     let mut out = sink_of(alloc, ROOM, &[number])?;
     let answered = status_of(alloc, "play F", store_of(alloc, FIRST, &[])?, &mut out)?;
     let whole = out.bytes() == FIRST_PLAYED.as_bytes();
-    let front = FIRST_PLAYED.as_bytes().starts_with(out.bytes());
+    let prefix = FIRST_PLAYED.as_bytes().starts_with(out.bytes());
     let right = match answered {
         0 => whole,
-        5 => front && !whole,
+        5 => prefix && !whole,
         _ => false,
     };
     Ok(if right { Some(answered) } else { None })

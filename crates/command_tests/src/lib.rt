@@ -9,6 +9,8 @@ mod commands;
 #[cfg(test)]
 mod contexts;
 #[cfg(test)]
+mod history;
+#[cfg(test)]
 mod session;
 #[cfg(test)]
 mod shapes;

@@ -1,65 +1,55 @@
 //! A core with room for some calls.
 
-use calls::{Call, Config, Reply};
+use calls::{Call, Config, Entry, Reply};
 use frame::Frame;
 use gfx_base::Colour;
 use gui_core::Gui;
 use scene::Stack;
 use script::{Script, read};
 use std::alloc::Global;
-use std::marker::Model;
 use std::test::*;
 
-/// How many calls a session has room for.
+/// The most calls that a session is opened for.
 const ROOM: u32 = 1_000;
 
 /// The task that makes the calls.
 const TASK: u16 = 1;
 
-/// A core, and for how many calls more it has room.
+/// A core whose calls one task makes.
 #[derive(Drop)]
 pub struct Session {
     gui: Gui,
-    left: u32,
-}
-
-impl Model for Session {
-    ghost use Rattle.std.specs.Prelude.{◌+◌, ◌≤◌};
-    ghost use Rattle.gui_core.specs.Machines.{Machine};
-
-    ghost Value = { Machine };
-
-    ghost view = { λ s. s.gui };
-
-    ghost invariant = { λ s. s.gui.made + s.left ≤ s.gui.setup.config.calls };
 }
 
 impl Session {
-    /// The core that the header of a script opens.
+    /// The core that the header of a script opens, for a thousand calls.
     pub fn open(alloc: Global, header: &str) -> Result<Session, Fail> {
+        Session::open_for(alloc, header, ROOM)
+    }
+
+    /// The core that the header of a script opens, for so many calls, a thousand at most.
+    pub fn open_for(alloc: Global, header: &str, calls: u32) -> Result<Session, Fail> {
+        let calls = calls.min(ROOM);
         let Script {
             config,
             assets,
             lines: _,
         } = read(alloc, header.as_bytes())?;
-        let config = Config {
-            calls: ROOM,
-            ..config
-        };
+        let config = Config { calls, ..config };
         Ok(Session {
             gui: Gui::open_alone(alloc, assets, config)?,
-            left: ROOM,
         })
     }
 
-    /// Makes a call, where there is room for one more and a task may make it.
-    pub fn call(&mut self, alloc: Global, call: &Call) -> Option<Reply> {
-        if self.left == 0 || !call.fits(TASK) {
-            return None;
-        }
+    /// Makes a call.
+    pub fn call(&mut self, alloc: Global, call: &Call) -> Reply {
         let mut taken = Vec::new(alloc);
-        self.left -= 1;
-        Some(self.gui.apply(alloc, TASK, call, &mut taken))
+        self.gui.apply(alloc, TASK, call, &mut taken)
+    }
+
+    /// The calls that were made, and their actors.
+    pub fn history(&self) -> &[Entry] {
+        self.gui.history()
     }
 
     /// How many calls were refused.
@@ -81,7 +71,7 @@ impl Session {
 
     /// The points of the painter's picture, row by row.
     pub fn painted(self, alloc: Global) -> Result<Vec<Colour>, Fail> {
-        let Session { gui, left: _ } = self;
+        let Session { gui } = self;
         points_of(alloc, &gui.into_painted())
     }
 }

@@ -100,7 +100,7 @@ fn windows_over_windows(rt: HostRuntime) -> Result<(), Fail> {
         }
         let mut session = after_calls(rt.alloc(), &calls)?;
         let again = session.call(rt.alloc(), &Call::Exec);
-        assert!(rt; again == Some(Reply::Jobs(0)), "{name}: again");
+        assert!(rt; again == Reply::Jobs(0), "{name}: again");
     }
     Ok(())
 }
@@ -117,7 +117,7 @@ fn keeps_all(
     let reply = session.call(alloc, call);
     let windows_after = session.windows();
     Ok(
-        reply == Some(Reply::Refused(refusal))
+        reply == Reply::Refused(refusal)
             && windows_after.as_slice() == windows.as_slice()
             && session.shown(alloc)? == shown,
     )
@@ -146,7 +146,7 @@ fn a_refused_call_changes_nothing(rt: HostRuntime) -> Result<(), Fail> {
             Refusal::NoClass(255),
         ),
     ];
-    // The last window waits to be painted, so the shown picture isn't the painter's.
+    // The last window is invalid, so the shown picture isn't the painter's.
     let calls = [create(1, 1, 4, 3, 1), Call::Exec, create(2, 2, 4, 3, 2)];
     let mut session = after_calls(rt.alloc(), &calls)?;
     let mut refused = 0u32;
@@ -156,7 +156,7 @@ fn a_refused_call_changes_nothing(rt: HostRuntime) -> Result<(), Fail> {
         refused = refused.wrapping_add(1);
         assert_eq!(rt; session.refused(), refused, "{name}");
     }
-    assert!(rt; session.call(rt.alloc(), &create(0, 0, 4096, 4096, 3)) == Some(Reply::Handle(4)));
+    assert!(rt; session.call(rt.alloc(), &create(0, 0, 4096, 4096, 3)) == Reply::Handle(4));
     assert_eq!(rt; session.refused(), refused);
     Ok(())
 }
@@ -221,7 +221,7 @@ fn as_many_windows_as_there_can_be(rt: HostRuntime) -> Result<(), Fail> {
         let kept = keeps_all(rt.alloc(), &mut session, &one_more, Refusal::TooManyWindows)?;
         assert!(rt; kept);
         assert_eq!(rt; session.refused(), 1);
-        assert!(rt; session.call(rt.alloc(), &Call::Exec).is_some());
+        let _ = session.call(rt.alloc(), &Call::Exec);
         assert!(rt; shows_the_painter(rt.alloc(), session)?);
     }
     Ok(())

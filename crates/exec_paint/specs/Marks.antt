@@ -1,4 +1,4 @@
--- The tiles in which the points of a row lie. No contract of a public function names these.
+-- The tiles in which the points of a row lie.
 use Rattle.std.specs.Prelude.{◌≡◌, ℕ, ◌/◌, ◌<◌, ◌⊎◌, Bool, true, List}
 use Rattle.gfx_base.specs.TileSets.{has_tile}
 

@@ -1,4 +1,4 @@
--- What a job paints with. No contract of a public function names these.
+-- What a job paints with: the plan of a row.
 use Rattle.std.specs.Prelude.{◌≡◌, ◌≤◌, ℕ, ℤ, pos, Bool, true, false, ◌&&◌, ◌||◌, not, if◌then◌else◌, List}
 use Rattle.std.specs.List.{list_any}
 use Rattle.gfx_base.specs.declared.point.Point.{Point}

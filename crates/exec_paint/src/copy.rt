@@ -11,8 +11,8 @@ use frame::Frame;
 use frame::laws::changes_only_there;
 use region::Span;
 
-/// Does nothing. A frame has as many points as its sides say, and its count of writes is a number of
-/// 64 bits.
+/// Does nothing. A frame has as many points as its sides say, and its count of writes is a number
+/// of 64 bits.
 pub fn frame_is_sound(frame: &Frame)
     ensures shape { HasShape frame.now.picture }
     ensures count { frame.now.writes < 2 ^ 64 }

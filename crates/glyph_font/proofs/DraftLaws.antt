@@ -52,23 +52,23 @@ all_more P (y ∷ xs) x all is = (all.0, all_more P xs x all.1 is)
 -- ---- where a draft stands
 
 abbrev pub Spelled : Place → Draft → List (List ℕ) → Type 0
-Spelled Between d front = front ≡ lines_of_glyphs d.font.glyphs
-Spelled Within d front = front ≡ lines_of_glyphs (d.font.glyphs ++ d.last ∷ [])
-Spelled After d front = front ≡ lines_of_glyphs d.font.glyphs ++ codes "end" ∷ []
+Spelled Between d prefix = prefix ≡ lines_of_glyphs d.font.glyphs
+Spelled Within d prefix = prefix ≡ lines_of_glyphs (d.font.glyphs ++ d.last ∷ [])
+Spelled After d prefix = prefix ≡ lines_of_glyphs d.font.glyphs ++ codes "end" ∷ []
 
 -- the draft at this place, after these lines
-pub record StandsAt (at : Place) (d : Draft) (front : List (List ℕ)) : Type 0 where
+pub record StandsAt (at : Place) (d : Draft) (prefix : List (List ℕ)) : Type 0 where
   pub high : 1 ≤ d.font.height
   pub not_too_high : d.font.height ≤ 32
   pub whole : AllByRecursion (IsGlyph d.font.height) d.font.glyphs
   pub keeps : Keeps at d
-  pub spelled : Spelled at d front
+  pub spelled : Spelled at d prefix
 
 abbrev pub Stands : Draft → List (List ℕ) → Type 0
-Stands d front = StandsAt d.place d front
+Stands d prefix = StandsAt d.place d prefix
 
-pub is_draft : (d : Draft) (front : List (List ℕ)) → Stands d front → IsDraft d
-is_draft d front was = record { high = was.high; not_too_high = was.not_too_high; whole = was.whole; keeps = was.keeps }
+pub is_draft : (d : Draft) (prefix : List (List ℕ)) → Stands d prefix → IsDraft d
+is_draft d prefix was = record { high = was.high; not_too_high = was.not_too_high; whole = was.whole; keeps = was.keeps }
 
 pub start_stands : (height : ℕ) → 1 ≤ height → height ≤ 32 → Stands (start height) []
 start_stands height some few = record { high = some; not_too_high = few; whole = tt; keeps = (tt, refl); spelled = refl }
@@ -108,8 +108,8 @@ settled_lacks d less =
     let test : eqb (length d.last.rows) d.font.height ≡ false = grind (arith, nat_tests) in
     rw test refl
 
-ended : (d : Draft) (front : List (List ℕ)) (line : List ℕ) → StandsAt Between d front → line ≡ codes "end" → StandsAt After (record d { place = After }) (front ++ line ∷ [])
-ended d front line was is = record {
+ended : (d : Draft) (prefix : List (List ℕ)) (line : List ℕ) → StandsAt Between d prefix → line ≡ codes "end" → StandsAt After (record d { place = After }) (prefix ++ line ∷ [])
+ended d prefix line was is = record {
   high = was.high;
   not_too_high = was.not_too_high;
   whole = was.whole;
@@ -117,8 +117,8 @@ ended d front line was is = record {
   spelled = ap (λ (ls : List (List ℕ)). ls ++ line ∷ []) was.spelled ∙ ap (λ (l : List ℕ). lines_of_glyphs d.font.glyphs ++ l ∷ []) is;
 }
 
-has_begun : (d : Draft) (front : List (List ℕ)) (line : List ℕ) (head : ℕ × ℕ) → StandsAt Between d front → line ≡ head_text head.0 head.1 → IsHead d.least head → StandsAt Within (begun d head) (front ++ line ∷ [])
-has_begun d front line head was is fits =
+has_begun : (d : Draft) (prefix : List (List ℕ)) (line : List ℕ) (head : ℕ × ℕ) → StandsAt Between d prefix → line ≡ head_text head.0 head.1 → IsHead d.least head → StandsAt Within (begun d head) (prefix ++ line ∷ [])
+has_begun d prefix line head was is fits =
     let least : d.least ≡ least_after 32 d.font.glyphs = was.keeps.1 in
     let from : d.least ≤ head.0 = fits.from in
     let some : 1 ≤ d.font.height = was.high in
@@ -134,8 +134,8 @@ has_begun d front line head was is fits =
 pub grows : (g : Glyph) (row : List Bool) → IsGlyph (length g.rows) g → length row ≡ g.width → IsGlyph (length g.rows + 1) (grown g row)
 grows g row is wide = record { wide = is.wide; not_too_wide = is.not_too_wide; high = length-append g.rows (row ∷ []); even = all_more (λ row. length row ≡ g.width) g.rows row is.even wide }
 
-has_grown : (d : Draft) (front : List (List ℕ)) (line : List ℕ) (row : List Bool) → d.place ≡ Within → StandsAt Within d front → line ≡ row_text row → length row ≡ d.last.width → Stands (with_row d row) (front ++ line ∷ [])
-has_grown d front line row within was is wide =
+has_grown : (d : Draft) (prefix : List (List ℕ)) (line : List ℕ) (row : List Bool) → d.place ≡ Within → StandsAt Within d prefix → line ≡ row_text row → length row ≡ d.last.width → Stands (with_row d row) (prefix ++ line ∷ [])
+has_grown d prefix line row within was is wide =
     let g : Glyph = grown d.last row in
     let next : Draft = record d { last = g } in
     let glyph = grows d.last row was.keeps.0 wide in
@@ -143,49 +143,49 @@ has_grown d front line row within was is wide =
     let lacked : length d.last.rows < d.font.height = was.keeps.1 in
     let least : d.least ≡ d.last.code + 1 = was.keeps.3 in
     let rising = rising_same 32 d.font.glyphs d.last g refl was.keeps.2 in
-    let text : front ++ line ∷ [] ≡ lines_of_glyphs (d.font.glyphs ++ g ∷ []) =
+    let text : prefix ++ line ∷ [] ≡ lines_of_glyphs (d.font.glyphs ++ g ∷ []) =
     ap (λ (ls : List (List ℕ)). ls ++ line ∷ []) was.spelled ∙ ap (λ (l : List ℕ). lines_of_glyphs (d.font.glyphs ++ d.last ∷ []) ++ l ∷ []) is ∙ spelled_row d.font.glyphs d.last row in
     elim (cases_lt (length g.rows) d.font.height) [
       | inl lacks ↦
-          let stands : StandsAt Within next (front ++ line ∷ []) = record {
+          let stands : StandsAt Within next (prefix ++ line ∷ []) = record {
             high = was.high;
             not_too_high = was.not_too_high;
             whole = was.whole;
             keeps = (subst (λ (n : ℕ). IsGlyph n g) (sym count) glyph, lacks, rising, least);
             spelled = text;
           } in
-          subst (λ (x : Draft). Stands x (front ++ line ∷ [])) (sym (settled_lacks next lacks)) (subst (λ (at : Place). StandsAt at next (front ++ line ∷ [])) (sym within) stands)
+          subst (λ (x : Draft). Stands x (prefix ++ line ∷ [])) (sym (settled_lacks next lacks)) (subst (λ (at : Place). StandsAt at next (prefix ++ line ∷ [])) (sym within) stands)
       | inr full ↦
           let all : length g.rows ≡ d.font.height = omega arith in
           let same : length d.last.rows + 1 ≡ d.font.height = omega arith in
-          let stands : StandsAt Between (record next { place = Between; font = with_glyph d.font g }) (front ++ line ∷ []) = record {
+          let stands : StandsAt Between (record next { place = Between; font = with_glyph d.font g }) (prefix ++ line ∷ []) = record {
             high = was.high;
             not_too_high = was.not_too_high;
             whole = all_more (IsGlyph d.font.height) d.font.glyphs g was.whole (subst (λ (n : ℕ). IsGlyph n g) same glyph);
             keeps = (rising, least ∙ sym (least_more 32 d.font.glyphs g));
             spelled = text;
           } in
-          subst (λ (x : Draft). Stands x (front ++ line ∷ [])) (sym (settled_whole next all)) stands
+          subst (λ (x : Draft). Stands x (prefix ++ line ∷ [])) (sym (settled_whole next all)) stands
     ]
 
-step_at : (at : Place) (d e : Draft) (front : List (List ℕ)) (line : List ℕ) → d.place ≡ at → StandsAt at d front → after_at at d line ≡ Some e → Stands e (front ++ line ∷ [])
-step_at Between d e front line place was is =
+step_at : (at : Place) (d e : Draft) (prefix : List (List ℕ)) (line : List ℕ) → d.place ≡ at → StandsAt at d prefix → after_at at d line ≡ Some e → Stands e (prefix ++ line ∷ [])
+step_at Between d e prefix line place was is =
     elim (chosen (bytes_eq line (codes "end")) (Some (record d { place = After })) (after_head d (head_of d.least (words_of line))) (Some e) is) [
-      | inl end ↦ subst (λ (x : Draft). Stands x (front ++ line ∷ [])) (same_Some (record d { place = After }) e end.1) (ended d front line was (named line (codes "end") end.0))
+      | inl end ↦ subst (λ (x : Draft). Stands x (prefix ++ line ∷ [])) (same_Some (record d { place = After }) e end.1) (ended d prefix line was (named line (codes "end") end.0))
       | inr other ↦
           let h = after_head_some d e (head_of d.least (words_of line)) other.1 in
           let t = head_takes d.least line h.0 h.1 in
-          subst (λ (x : Draft). Stands x (front ++ line ∷ [])) h.2 (has_begun d front line h.0 was t.0 t.1)
+          subst (λ (x : Draft). Stands x (prefix ++ line ∷ [])) h.2 (has_begun d prefix line h.0 was t.0 t.1)
     ]
-step_at Within d e front line place was is =
+step_at Within d e prefix line place was is =
     let r = after_row_some d e (row_of d.last.width line) is in
     let t = row_takes d.last.width line r.0 r.1 in
-    subst (λ (x : Draft). Stands x (front ++ line ∷ [])) r.2 (has_grown d front line r.0 place was t.0 t.1)
-step_at After d e front line place was is = absurd cc
+    subst (λ (x : Draft). Stands x (prefix ++ line ∷ [])) r.2 (has_grown d prefix line r.0 place was t.0 t.1)
+step_at After d e prefix line place was is = absurd cc
 
-pub step : (d e : Draft) (front : List (List ℕ)) (line : List ℕ) → Stands d front → after_line d line ≡ Some e → Stands e (front ++ line ∷ [])
+pub step : (d e : Draft) (prefix : List (List ℕ)) (line : List ℕ) → Stands d prefix → after_line d line ≡ Some e → Stands e (prefix ++ line ∷ [])
 unfolding after_line
-step d e front line was is = step_at d.place d e front line refl was is
+step d e prefix line was is = step_at d.place d e prefix line refl was is
 
 -- no line changes the height
 either_height : (b : Bool) (d e : Draft) (height : ℕ) → d.font.height ≡ height → e.font.height ≡ height → (cond b d e).font.height ≡ height
@@ -226,25 +226,25 @@ all_few : (height : ℕ) (gs : List Glyph) → height ≤ 32 → AllByRecursion 
 all_few height [] low all = tt
 all_few height (g ∷ gs) low all = let high = all.0.high in (omega arith, all_few height gs low all.1)
 
-few_lines_at : (at : Place) (d : Draft) (front : List (List ℕ)) → StandsAt at d front → length front ≤ 3136
-few_lines_at Between d front was =
+few_lines_at : (at : Place) (d : Draft) (prefix : List (List ℕ)) → StandsAt at d prefix → length prefix ≤ 3136
+few_lines_at Between d prefix was =
     let rising = rising_length 32 d.font.glyphs was.keeps.0 (omega arith) in
     let few = few_rows d.font.glyphs (all_few d.font.height d.font.glyphs was.not_too_high was.whole) in
     let same = ap length was.spelled in
     omega arith
-few_lines_at Within d front was =
+few_lines_at Within d prefix was =
     let rising = rising_length 32 (d.font.glyphs ++ d.last ∷ []) was.keeps.2 (omega arith) in
     let lacks : length d.last.rows < d.font.height = was.keeps.1 in
     let low = was.not_too_high in
     let few = few_rows (d.font.glyphs ++ d.last ∷ []) (all_more (λ g. length g.rows ≤ 32) d.font.glyphs d.last (all_few d.font.height d.font.glyphs was.not_too_high was.whole) (omega arith)) in
     let same = ap length was.spelled in
     omega arith
-few_lines_at After d front was =
+few_lines_at After d prefix was =
     let rising = rising_length 32 d.font.glyphs was.keeps.0 (omega arith) in
     let few = few_rows d.font.glyphs (all_few d.font.height d.font.glyphs was.not_too_high was.whole) in
     let same = ap length was.spelled in
     let more = length-append (lines_of_glyphs d.font.glyphs) (codes "end" ∷ []) in
     omega arith
 
-pub few_lines : (d : Draft) (front : List (List ℕ)) → Stands d front → length front ≤ 3136
-few_lines d front was = few_lines_at d.place d front was
+pub few_lines : (d : Draft) (prefix : List (List ℕ)) → Stands d prefix → length prefix ≤ 3136
+few_lines d prefix was = few_lines_at d.place d prefix was

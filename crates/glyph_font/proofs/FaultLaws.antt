@@ -12,23 +12,23 @@ use Rattle.glyph_font.specs.declared.fault.FontRefused.{FontRefused}
 use Rattle.glyph_font.specs.declared.fault.FontRefused.TheVariants as refused
 use Rattle.glyph_font.specs.Fonts.{Font}
 use Rattle.glyph_font.specs.Texts.{IsBody}
-use Rattle.glyph_font.specs.Faults.{IsFront, IsFault, IsRefused, WhyAt, why_at, why_cut}
+use Rattle.glyph_font.specs.Faults.{IsPrefix, IsFault, IsRefused, WhyAt, why_at, why_cut}
 use Rattle.glyph_font.specs.Reading.{Draft, place_of, start, after_line, or_why, line_step, from_line, read_of, Says, SaysFont}
 use Rattle.glyph_font.proofs.BlockLaws.{whole_says, one_font_lines}
-use Rattle.glyph_font.proofs.LinesReadLemmas.{front_read_of, front_reads}
+use Rattle.glyph_font.proofs.LinesReadLemmas.{prefix_read_of, prefix_reads}
 
--- ---- the step reads the fronts
+-- ---- the step reads the prefixes
 
 refused_by : (place : Place) (o : Option Draft) (reason : FontWhy) → or_why place o ≡ Err reason → reason ≡ why_at place
 refused_by place None reason is = cc
 refused_by place (Some d) reason is = absurd cc
 
-pub reading : (height : ℕ) → 1 ≤ height → height ≤ 32 → IsReading line_step (start height) place_of (IsFront height) WhyAt
+pub reading : (height : ℕ) → 1 ≤ height → height ≤ 32 → IsReading line_step (start height) place_of (IsPrefix height) WhyAt
 reading height some few = record {
-  sound = λ xs d is. front_read_of height d xs some few is;
-  complete = λ xs place front. let r = front_reads height xs place some front in (r.draft, r.read, r.place);
+  sound = λ xs d is. prefix_read_of height d xs some few is;
+  complete = λ xs place prefix. let r = prefix_reads height xs place some prefix in (r.draft, r.read, r.place);
   reasons = λ xs d line reason is wrong. refused_by d.place (after_line d line) reason wrong;
-  one_reason = λ xs place line r s front longer is also. is ∙ sym also;
+  one_reason = λ xs place line r s prefix longer is also. is ∙ sym also;
 }
 
 -- ---- what reading says
@@ -44,11 +44,11 @@ font_of height body d some few is after =
     record { is = whole.0; high = whole.1; spelled = whole.2 }
 
 abbrev Says_of : ℕ → List ℕ → Result Draft (ℕ × FontWhy) → Type 0
-Says_of height body r = lines.Describes line_step (start height) place_of (IsFront height) WhyAt why_cut (lines_of body) r
+Says_of height body r = lines.Describes line_step (start height) place_of (IsPrefix height) WhyAt why_cut (lines_of body) r
 
 says : (height : ℕ) (body : List ℕ) → 1 ≤ height → height ≤ 32 → Says_of height body (read_of height body)
 unfolding read_of
-says height body some few = lines.read_says line_step (start height) place_of (IsFront height) WhyAt why_cut (reading height some few) (lines_of body)
+says height body some few = lines.read_says line_step (start height) place_of (IsPrefix height) WhyAt why_cut (reading height some few) (lines_of body)
 
 -- for `read`
 pub is_answer : (height : ℕ) (body : List ℕ) (r : Result Font FontRefused) → 1 ≤ height → height ≤ 32 → MatchResult r (SaysFont (read_of height body)) (Says (read_of height body)) → MatchResult r (λ font. IsBody height body font) (IsRefused height body)
@@ -62,20 +62,20 @@ is_answer height body (Err (refused.Fault fault)) some few is = subst (Says_of h
 
 pub either : (height : ℕ) (body : List ℕ) → 1 ≤ height → height ≤ 32 → ((font : Font) × IsBody height body font) ⊎ ((fault : FontFault) × IsFault height body fault)
 either height body some few =
-    elim (lines.either line_step (start height) place_of (IsFront height) WhyAt why_cut (reading height some few) (lines_of body)) [
+    elim (lines.either line_step (start height) place_of (IsPrefix height) WhyAt why_cut (reading height some few) (lines_of body)) [
       | inl whole ↦ inl (whole.0.font, font_of height body whole.0 some few whole.1 (uncut whole.0.place whole.2))
       | inr fault ↦ inr (record { line = fault.0; why = fault.1 }, fault.2)
     ]
 
--- a font's lines are a front, after `end`
-front_of : (height : ℕ) (body : List ℕ) (font : Font) → IsBody height body font → IsFront height (lines_of body) After
-front_of height body font is = subst (λ (h : ℕ). IsFront h (lines_of body) After) is.high (record { glyphs = font.glyphs; whole = is.is.glyphs; rising = is.is.rising; spelled = is.spelled })
+-- a font's lines are a prefix, after `end`
+prefix_of : (height : ℕ) (body : List ℕ) (font : Font) → IsBody height body font → IsPrefix height (lines_of body) After
+prefix_of height body font is = subst (λ (h : ℕ). IsPrefix h (lines_of body) After) is.high (record { glyphs = font.glyphs; whole = is.is.glyphs; rising = is.is.rising; spelled = is.spelled })
 
 pub not_both : (height : ℕ) (body : List ℕ) (font : Font) (fault : FontFault) → IsBody height body font → IsFault height body fault → ⊥
 not_both height body font fault is wrong =
     let some = subst (λ (h : ℕ). 1 ≤ h) is.high is.is.high in
     let few = subst (λ (h : ℕ). h ≤ 32) is.high is.is.not_too_high in
-    lines.not_both line_step (start height) place_of (IsFront height) WhyAt why_cut (reading height some few) (lines_of body) After fault.line fault.why (front_of height body font is) refl wrong
+    lines.not_both line_step (start height) place_of (IsPrefix height) WhyAt why_cut (reading height some few) (lines_of body) After fault.line fault.why (prefix_of height body font is) refl wrong
 
 -- ---- one of either
 
@@ -87,7 +87,7 @@ fault_at line reason = record { line = line; why = reason }
 
 pub one_fault : (height : ℕ) (body : List ℕ) (a b : FontFault) → 1 ≤ height → height ≤ 32 → IsFault height body a → IsFault height body b → a ≡ b
 one_fault height body a b some few is also =
-    let same = lines.one_fault line_step (start height) place_of (IsFront height) WhyAt why_cut (reading height some few) (lines_of body) a.line b.line a.why b.why is also in
+    let same = lines.one_fault line_step (start height) place_of (IsPrefix height) WhyAt why_cut (reading height some few) (lines_of body) a.line b.line a.why b.why is also in
     ap (λ (n : ℕ). fault_at n a.why) same.0 ∙ ap (fault_at b.line) same.1
 
 -- ---- for the loop

@@ -12,7 +12,7 @@ use Rattle.glyph_font.specs.declared.place.Place.{Place}
 use Rattle.glyph_font.specs.declared.place.Place.TheVariants.{Between, Within, After}
 use Rattle.glyph_font.specs.Fonts.{Glyph, Font, IsGlyph, IsRising}
 use Rattle.glyph_font.specs.Texts.{row_text, head_text, glyph_lines, lines_of_glyphs}
-use Rattle.glyph_font.specs.Faults.{AreRows, IsFront}
+use Rattle.glyph_font.specs.Faults.{AreRows, IsPrefix}
 use Rattle.glyph_font.specs.Reading.{Draft, start, begun, grown, with_glyph, with_row, after_head, after_row, after_at, after_line, or_why, line_step, least_after}
 use Rattle.glyph_font.proofs.LineLaws.{IsHead, head_again, row_again}
 use Rattle.glyph_font.proofs.DraftLaws.{StandsAt, Stands, start_stands, step, height_step, settled_whole, settled_lacks, rising_less}
@@ -37,18 +37,18 @@ stepped place (Some d) e is = cc
 goes_on : (d e : Draft) (line : List ℕ) (lines : List (List ℕ)) → after_line d line ≡ Some e → run d (line ∷ lines) ≡ run e lines
 goes_on d e line lines is = ap (λ (o : Result Draft FontWhy). on o (λ next. run next lines)) (steps d.place (after_line d line) e is)
 
-pub stands_after : (d e : Draft) (front lines : List (List ℕ)) → Stands d front → run d lines ≡ Ok e → Stands e (front ++ lines)
-stands_after d e front [] was is = let same : d ≡ e = cc in subst (Stands e) (sym (append-nil front)) (subst (λ (x : Draft). Stands x front) same was)
-stands_after d e front (line ∷ lines) was is =
+pub stands_after : (d e : Draft) (prefix lines : List (List ℕ)) → Stands d prefix → run d lines ≡ Ok e → Stands e (prefix ++ lines)
+stands_after d e prefix [] was is = let same : d ≡ e = cc in subst (Stands e) (sym (append-nil prefix)) (subst (λ (x : Draft). Stands x prefix) same was)
+stands_after d e prefix (line ∷ lines) was is =
     let next = on_ok (line_step d line) (λ next. run next lines) e is in
-    subst (Stands e) (append_assoc front (line ∷ []) lines) (stands_after next.0 e (front ++ line ∷ []) lines (step d next.0 front line was (stepped d.place (after_line d line) next.0 next.1)) next.2)
+    subst (Stands e) (append_assoc prefix (line ∷ []) lines) (stands_after next.0 e (prefix ++ line ∷ []) lines (step d next.0 prefix line was (stepped d.place (after_line d line) next.0 next.1)) next.2)
 
 -- ---- what was read
 
-front_at : (at : Place) (d : Draft) (front : List (List ℕ)) → StandsAt at d front → IsFront d.font.height front at
-front_at Between d front was = record { glyphs = d.font.glyphs; whole = was.whole; rising = was.keeps.0; spelled = was.spelled }
-front_at Within d front was = record { glyphs = d.font.glyphs; last = d.last; whole = was.whole; begun = was.keeps.0; lacks = was.keeps.1; rising = was.keeps.2; spelled = was.spelled }
-front_at After d front was = record { glyphs = d.font.glyphs; whole = was.whole; rising = was.keeps.0; spelled = was.spelled }
+prefix_at : (at : Place) (d : Draft) (prefix : List (List ℕ)) → StandsAt at d prefix → IsPrefix d.font.height prefix at
+prefix_at Between d prefix was = record { glyphs = d.font.glyphs; whole = was.whole; rising = was.keeps.0; spelled = was.spelled }
+prefix_at Within d prefix was = record { glyphs = d.font.glyphs; last = d.last; whole = was.whole; begun = was.keeps.0; lacks = was.keeps.1; rising = was.keeps.2; spelled = was.spelled }
+prefix_at After d prefix was = record { glyphs = d.font.glyphs; whole = was.whole; rising = was.keeps.0; spelled = was.spelled }
 
 pub height_kept : (d e : Draft) (lines : List (List ℕ)) → run d lines ≡ Ok e → e.font.height ≡ d.font.height
 height_kept d e [] is = let same : d ≡ e = cc in ap (λ (x : Draft). x.font.height) (sym same)
@@ -59,8 +59,8 @@ height_kept d e (line ∷ lines) is =
 pub read_stands : (height : ℕ) (d : Draft) (lines : List (List ℕ)) → 1 ≤ height → height ≤ 32 → run (start height) lines ≡ Ok d → Stands d lines
 read_stands height d lines some few is = stands_after (start height) d [] lines (start_stands height some few) is
 
-pub front_read_of : (height : ℕ) (d : Draft) (lines : List (List ℕ)) → 1 ≤ height → height ≤ 32 → run (start height) lines ≡ Ok d → IsFront height lines d.place
-front_read_of height d lines some few is = subst (λ (h : ℕ). IsFront h lines d.place) (height_kept (start height) d lines is) (front_at d.place d lines (read_stands height d lines some few is))
+pub prefix_read_of : (height : ℕ) (d : Draft) (lines : List (List ℕ)) → 1 ≤ height → height ≤ 32 → run (start height) lines ≡ Ok d → IsPrefix height lines d.place
+prefix_read_of height d lines some few is = subst (λ (h : ℕ). IsPrefix h lines d.place) (height_kept (start height) d lines is) (prefix_at d.place d lines (read_stands height d lines some few is))
 
 -- ---- what is read
 
@@ -158,7 +158,7 @@ glyphs_read d (g ∷ gs) between some whole rising =
       least = more.least;
     }
 
--- ---- fronts
+-- ---- prefixes
 
 end_read : (d : Draft) → d.place ≡ Between → after_line d (codes "end") ≡ Some (record d { place = After })
 end_read d between = at_place Between d (codes "end") between
@@ -186,29 +186,29 @@ all_read height glyphs lines some whole rising spelled =
       font = r.font;
     }
 
-rows_front : (height : ℕ) (lines : List (List ℕ)) → 1 ≤ height → AreRows height lines → Reads height Within lines
-rows_front height lines some front =
-    let g : Glyph = front.last in
-    let parts = rising_less 32 front.glyphs g front.rising in
-    let r = glyphs_read (start height) front.glyphs refl some front.whole parts.0 in
-    let from : least_after 32 front.glyphs ≤ g.code = parts.1 in
+rows_prefix : (height : ℕ) (lines : List (List ℕ)) → 1 ≤ height → AreRows height lines → Reads height Within lines
+rows_prefix height lines some prefix =
+    let g : Glyph = prefix.last in
+    let parts = rising_less 32 prefix.glyphs g prefix.rising in
+    let r = glyphs_read (start height) prefix.glyphs refl some prefix.whole parts.0 in
+    let from : least_after 32 prefix.glyphs ≤ g.code = parts.1 in
     let least = r.least in
-    let lacks = front.lacks in
+    let lacks = prefix.lacks in
     let high = ap (λ (f : Font). f.height) r.font in
     let next : Draft = begun r.after (g.code, g.width) in
-    let head = head_read r.after (g.code, g.width) r.between (is_head (length g.rows) r.after.least g front.begun (omega arith) parts.2) in
+    let head = head_read r.after (g.code, g.width) r.between (is_head (length g.rows) r.after.least g prefix.begun (omega arith) parts.2) in
     record {
       draft = with_rows next g.rows;
-      read = ap (run (start height)) (front.spelled ∙ flat_map-append glyph_lines front.glyphs (g ∷ []) ∙ ap (λ (ls : List (List ℕ)). lines_of_glyphs front.glyphs ++ ls) (append-nil (glyph_lines g))) ∙ run_on line_step (start height) r.after (lines_of_glyphs front.glyphs) (glyph_lines g) r.read
-          ∙ goes_on r.after next (head_text g.code g.width) (map row_text g.rows) head ∙ rows_read next g.rows refl front.begun.even (omega arith);
+      read = ap (run (start height)) (prefix.spelled ∙ flat_map-append glyph_lines prefix.glyphs (g ∷ []) ∙ ap (λ (ls : List (List ℕ)). lines_of_glyphs prefix.glyphs ++ ls) (append-nil (glyph_lines g))) ∙ run_on line_step (start height) r.after (lines_of_glyphs prefix.glyphs) (glyph_lines g) r.read
+          ∙ goes_on r.after next (head_text g.code g.width) (map row_text g.rows) head ∙ rows_read next g.rows refl prefix.begun.even (omega arith);
       place = refl;
     }
 
-pub front_reads : (height : ℕ) (lines : List (List ℕ)) (at : Place) → 1 ≤ height → IsFront height lines at → Reads height at lines
-front_reads height lines Between some front =
-    let r = glyphs_read (start height) front.glyphs refl some front.whole front.rising in
-    record { draft = r.after; read = ap (run (start height)) front.spelled ∙ r.read; place = r.between }
-front_reads height lines Within some front = rows_front height lines some front
-front_reads height lines After some front =
-    let r = all_read height front.glyphs lines some front.whole front.rising front.spelled in
+pub prefix_reads : (height : ℕ) (lines : List (List ℕ)) (at : Place) → 1 ≤ height → IsPrefix height lines at → Reads height at lines
+prefix_reads height lines Between some prefix =
+    let r = glyphs_read (start height) prefix.glyphs refl some prefix.whole prefix.rising in
+    record { draft = r.after; read = ap (run (start height)) prefix.spelled ∙ r.read; place = r.between }
+prefix_reads height lines Within some prefix = rows_prefix height lines some prefix
+prefix_reads height lines After some prefix =
+    let r = all_read height prefix.glyphs lines some prefix.whole prefix.rising prefix.spelled in
     record { draft = r.draft; read = r.read; place = r.place }

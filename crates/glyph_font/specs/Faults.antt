@@ -41,10 +41,10 @@ pub record AreAll (height : ℕ) (lines : List (List ℕ)) : Type 0 where
 
 -- the lines are the first ones of a font, and after them stands this place: between glyphs, within
 -- one, or after `end`
-abbrev pub IsFront : ℕ → List (List ℕ) → Place → Type 0
-IsFront height lines Between = AreGlyphs height lines
-IsFront height lines Within = AreRows height lines
-IsFront height lines After = AreAll height lines
+abbrev pub IsPrefix : ℕ → List (List ℕ) → Place → Type 0
+IsPrefix height lines Between = AreGlyphs height lines
+IsPrefix height lines Within = AreRows height lines
+IsPrefix height lines After = AreAll height lines
 
 -- ---- faults
 
@@ -63,10 +63,10 @@ why_cut _ = Some why.End
 abbrev pub WhyAt : Place → List ℕ → FontWhy → Type 0
 WhyAt place line reason = reason ≡ why_at place
 
--- the longest front of a font, and then a line that is wrong, or the end
+-- the longest prefix of a font, and then a line that is wrong, or the end
 abbrev pub IsFault : ℕ → List ℕ → FontFault → Type 0
 IsFault height body fault =
-    IsFirstFault (IsFront height) WhyAt why_cut (lines_of body) fault.line fault.why
+    IsFirstFault (IsPrefix height) WhyAt why_cut (lines_of body) fault.line fault.why
 
 -- a refusal tells the fault; of one for want of memory nothing is said
 abbrev pub IsRefused : ℕ → List ℕ → FontRefused → Type 0

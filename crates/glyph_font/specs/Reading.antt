@@ -6,8 +6,8 @@ use Rattle.spelling.specs.Words.{◌>>=◌, words_of, after_word, natural_at}
 use Rattle.spelling.specs.LineReading.{read_from}
 use Rattle.glyph_font.specs.declared.place.Place.{Place}
 use Rattle.glyph_font.specs.declared.place.Place.TheVariants.{Between, Within, After}
-use Rattle.glyph_font.specs.declared.draft.FontLineError.{FontLineError}
-use Rattle.glyph_font.specs.declared.draft.FontLineError.TheVariants as line_error
+use Rattle.glyph_font.specs.declared.fault.FontLineError.{FontLineError}
+use Rattle.glyph_font.specs.declared.fault.FontLineError.TheVariants as line_error
 use Rattle.glyph_font.specs.declared.fault.FontWhy.{FontWhy}
 use Rattle.glyph_font.specs.declared.fault.FontRefused.{FontRefused}
 use Rattle.glyph_font.specs.declared.fault.FontRefused.TheVariants as refused

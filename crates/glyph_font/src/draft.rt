@@ -8,6 +8,7 @@ ghost use Rattle.glyph_font.specs.Fonts.{IsGlyph, IsRising};
 ghost use Rattle.glyph_font.specs.Bits.{bits_of};
 ghost use Rattle.glyph_font.specs.Reading.{start, begun, with_row, settled, is_whole, head_of, row_of, is_point, after_between, after_row, after_line, IsDraft, Takes};
 
+use crate::fault::FontLineError;
 use crate::font::{FIRST_CODE, Font, LAST_CODE};
 use crate::glyph::{Glyph, MOST_POINTS, bits_of};
 use crate::place::Place;
@@ -15,14 +16,6 @@ use gfx_base::Memory;
 use spelling::{after_word, is_done, natural_at};
 use std::alloc::Global;
 use std::marker::Model;
-
-/// Why a line could not be taken.
-#[derive(Clone, Copy, Debug, PartialEq, Eq)]
-pub enum FontLineError {
-    Memory,
-    /// It doesn't go on with the font.
-    Wrong,
-}
 
 /// A font as far as its lines were read.
 #[derive(Drop)]

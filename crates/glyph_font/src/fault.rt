@@ -16,6 +16,15 @@ pub enum FontWhy {
     End,
 }
 
+/// Why a line was not taken: memory ran out, or it is wrong.
+#[derive(Clone, Copy, Debug, PartialEq, Eq, Error)]
+pub enum FontLineError {
+    #[error("out of memory")]
+    Memory,
+    #[error("a wrong line of a font")]
+    Wrong,
+}
+
 /// The first line that is wrong, counted from 1.
 #[derive(Clone, Copy, Debug, PartialEq, Eq, Error)]
 #[error("line {line}: {why}")]

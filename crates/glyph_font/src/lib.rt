@@ -9,6 +9,6 @@ pub mod laws;
 mod place;
 mod reader;
 
-pub use draft::{FontDraft, FontLineError};
-pub use fault::{FontFault, FontRefused, FontWhy};
+pub use draft::FontDraft;
+pub use fault::{FontFault, FontLineError, FontRefused, FontWhy};
 pub use font::Font;

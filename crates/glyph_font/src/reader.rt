@@ -6,8 +6,8 @@ ghost use Rattle.glyph_font.specs.Texts.{IsBody};
 ghost use Rattle.glyph_font.specs.Faults.{IsRefused};
 ghost use Rattle.glyph_font.specs.Reading.{read_of, Says, SaysFont};
 
-use crate::draft::{FontDraft, FontLineError};
-use crate::fault::{FontFault, FontRefused, FontWhy};
+use crate::draft::FontDraft;
+use crate::fault::{FontFault, FontLineError, FontRefused, FontWhy};
 use crate::font::Font;
 use crate::place::why_at;
 use spelling::first_line;

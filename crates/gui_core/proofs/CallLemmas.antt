@@ -34,7 +34,7 @@ use Rattle.gui_core.proofs.InkLemmas.{width-ink, height-ink}
 use Rattle.calls.specs.declared.call.Call.TheVariants.{Create}
 use Rattle.scene.specs.Families.{new_window, desktop_with, on_top_of}
 use Rattle.gui_core.specs.States.{State, Step, opening, is_context_call, objections, objections_to, refusal_of, unless_refused, with_windows, effect, effect_of, work_objections, context_objections, context_after, step_of_call, step, is_refused}
-use Rattle.gui_core.specs.Machines.{Machine, IsConfig, IsKept, Takes, TakesAlike, Answers, starting}
+use Rattle.gui_core.specs.Machines.{Machine, IsConfig, IsKept, Takes, TakesAlike, Counts, machine_for}
 
 -- ---- one call
 
@@ -54,7 +54,7 @@ pub taken_by : (old new : Machine) (actor : ℕ) (call asked : Call) (reply : Re
 taken_by old new actor call asked reply same alike = subst (λ (x : Call). Takes old actor x new reply) (sym same) (alike.by actor)
 
 -- a call that was counted, made, and counted once more where it was refused
-pub answered_by : (old counted taken new : Machine) (actor : ℕ) (call : Call) (reply : Reply) (n : ℕ) → counted ≡ record old { made = old.made + 1 } → Takes counted actor call taken reply → new ≡ record taken { refused = taken.refused + n } → n ≡ cond (is_refused reply) 1 0 → Answers old actor call new reply
+pub answered_by : (old counted taken new : Machine) (actor : ℕ) (call : Call) (reply : Reply) (n : ℕ) → counted ≡ record old { made = old.made + 1 } → Takes counted actor call taken reply → new ≡ record taken { refused = taken.refused + n } → n ≡ cond (is_refused reply) 1 0 → Counts old actor call new reply
 unfolding step
 answered_by old counted taken new actor call reply n once takes more count =
     let rest = takes.rest in
@@ -279,7 +279,7 @@ scene_opening setup is desktop =
       classes = (omega arith, tt);
     }
 
-pub kept-starting : (assets : Assets) (config : Config) → IsConfig config → IsSound assets → 1 ≤ length assets.classes → IsKept (starting assets config)
+pub kept-starting : (assets : Assets) (config : Config) → IsConfig config → IsSound assets → 1 ≤ length assets.classes → IsKept (machine_for assets config)
 kept-starting assets config is sound desktop =
     let count = length-with_desktop config.desktop assets.classes in
     record {
@@ -296,5 +296,5 @@ kept-starting assets config is sound desktop =
     }
 
 pub started : (given kept : Assets) (config : Config) (surfaces : Surfaces) (windows : Scene) (contexts : List Owned) → kept ≡ assets_with_desktop config.desktop given → surfaces ≡ record { shown = picture_of config.w config.h (λ x y. 0); devices = no_device_pictures } → windows ≡ record { windows = desktop_with config.w config.h (screen_with config.w config.h) ∷ []; handles = 1 } → contexts ≡ first_contexts
-    → ◌≡◌ {A = Machine} (record { setup = record { config = config; assets = kept }; state = record { windows = windows.windows; handles = windows.handles; shown = surfaces.shown; contexts = contexts; devices = surfaces.devices }; made = 0; refused = 0 }) (starting given config)
+    → ◌≡◌ {A = Machine} (record { setup = record { config = config; assets = kept }; state = record { windows = windows.windows; handles = windows.handles; shown = surfaces.shown; contexts = contexts; devices = surfaces.devices }; made = 0; refused = 0 }) (machine_for given config)
 started given kept config surfaces windows contexts assets drawn_on is first = rw (assets, drawn_on, is, first) refl

@@ -24,4 +24,5 @@ mod WantLemmas
 mod HandleLemmas
 mod CallLemmas
 mod ContextLemmas
+mod HistoryLemmas
 pub mod CallerLemmas

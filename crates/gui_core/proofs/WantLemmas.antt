@@ -1,5 +1,5 @@
--- No step tells that there is no memory: what is held against calls is another reason, and effects refuse nothing.
-use Rattle.std.proofs.Common.{◌≡◌, ℕ, ◌+◌, ◌-◌, true, false, eqb, List, [], ◌∷◌, length, Option, Some, None, refl, sym, ap, ◌∙◌, inl, inr, arith}
+-- Each step's call is entered: no step tells that there is no room or no memory. What is held against calls is another reason, and effects refuse nothing.
+use Rattle.std.proofs.Common.{◌≡◌, ℕ, ◌+◌, ◌-◌, Bool, true, false, not, ◌&&◌, eqb, List, [], ◌∷◌, length, Option, Some, None, refl, sym, ap, ◌∙◌, inl, inr, arith}
 use Rattle.std.specs.List.{AllByRecursion}
 use Rattle.std.proofs.lemmas.Bool.{cases_Bool}
 use Rattle.context.specs.declared.context.Context.{Context}
@@ -15,17 +15,18 @@ use Rattle.calls.specs.declared.reply.Refusal.{Refusal}
 use Rattle.gui_core.specs.Setups.{Setup}
 use Rattle.gui_core.specs.Devices.{DevicePicture}
 use Rattle.gui_core.specs.Drawing.{Work, Draw, Copy, Make, Discard, work_of}
-use Rattle.gui_core.specs.States.{State, Step, Objection, is_context_call, objections, context_objections, no_ground, work_objections, other_objections, objections_to, refusal_of, unless_refused, effect_of, step_of_call, is_want_of_memory}
-use Rattle.gui_core.specs.Machines.{Machine, Takes, IsUnmade}
+use Rattle.gui_core.specs.States.{State, Step, Objection, is_context_call, objections, context_objections, no_ground, work_objections, other_objections, objections_to, refusal_of, unless_refused, effect_of, step_of_call, step, is_want_of_memory}
+use Rattle.gui_core.specs.Machines.{Machine, Counts, IsUnmade}
+use Rattle.gui_core.specs.Histories.{says_full, is_entered}
 use Rattle.gui_core.proofs.SceneryLemmas.{no_effect_refuses}
 
--- an objection that is no want of memory
+-- an objection to a call that is entered
 abbrev IsOther : Objection → Type 0
-IsOther o = is_want_of_memory (Refused o.1) ≡ false
+IsOther o = is_entered (Refused o.1) ≡ true
 
-refusal_is_other : (os : List Objection) (r : Refusal) → AllByRecursion IsOther os → refusal_of os ≡ Some r → is_want_of_memory (Refused r) ≡ false
+refusal_is_other : (os : List Objection) (r : Refusal) → AllByRecursion IsOther os → refusal_of os ≡ Some r → is_entered (Refused r) ≡ true
 refusal_is_other [] r all is = absurd cc
-refusal_is_other ((true, why) ∷ os) r all is = ap (λ (o : Option Refusal). is_want_of_memory (told o)) (sym is) ∙ all.0
+refusal_is_other ((true, why) ∷ os) r all is = ap (λ (o : Option Refusal). is_entered (told o)) (sym is) ∙ all.0
   where
     told : Option Refusal → Reply
     told None = Done
@@ -87,22 +88,32 @@ all_are_other setup s actor call =
       | inr other ↦ rw other (other_objections_are_other setup s actor (work_of call) call)
     ]
 
-not_refused_not_want : (reply : Reply) → ((r : Refusal) → reply ≡ Refused r → ⊥) → is_want_of_memory reply ≡ false
-not_refused_not_want Done fine = refl
-not_refused_not_want (Handle handle) fine = refl
-not_refused_not_want (Jobs count) fine = refl
-not_refused_not_want (Device device) fine = refl
-not_refused_not_want (Refused r) fine = absurd (fine r refl)
+unrefused_is_entered : (reply : Reply) → ((r : Refusal) → reply ≡ Refused r → ⊥) → is_entered reply ≡ true
+unrefused_is_entered Done fine = refl
+unrefused_is_entered (Handle handle) fine = refl
+unrefused_is_entered (Jobs count) fine = refl
+unrefused_is_entered (Device device) fine = refl
+unrefused_is_entered (Refused r) fine = absurd (fine r refl)
 
-pub no_step_wants : (setup : Setup) (s : State) (actor : ℕ) (call : Call) → is_want_of_memory (step_of_call setup s actor call).reply ≡ false
-no_step_wants setup s actor call = by_refusal (refusal_of (objections_to setup s actor call)) refl
+pub step_is_entered : (setup : Setup) (s : State) (actor : ℕ) (call : Call) → is_entered (step_of_call setup s actor call).reply ≡ true
+step_is_entered setup s actor call = by_refusal (refusal_of (objections_to setup s actor call)) refl
   where
-    by_refusal : (o : Option Refusal) → refusal_of (objections_to setup s actor call) ≡ o → is_want_of_memory (unless_refused o s (effect_of setup s actor call)).reply ≡ false
-    by_refusal None is = not_refused_not_want (effect_of setup s actor call).reply (no_effect_refuses setup s actor call)
+    by_refusal : (o : Option Refusal) → refusal_of (objections_to setup s actor call) ≡ o → is_entered (unless_refused o s (effect_of setup s actor call)).reply ≡ true
+    by_refusal None is = unrefused_is_entered (effect_of setup s actor call).reply (no_effect_refuses setup s actor call)
     by_refusal (Some r) is = refusal_is_other (objections_to setup s actor call) r (all_are_other setup s actor call) is
 
-pub taken_wants_nothing : (old new : Machine) (actor : ℕ) (call : Call) (reply : Reply) → Takes old actor call new reply → is_want_of_memory reply ≡ false
-taken_wants_nothing old new actor call reply takes = ap (λ (step : Step). is_want_of_memory step.reply) takes.step ∙ no_step_wants old.setup old.state actor call
+pub counted_is_entered : (old new : Machine) (actor : ℕ) (call : Call) (reply : Reply) → Counts old actor call new reply → is_entered reply ≡ true
+unfolding step
+counted_is_entered old new actor call reply counts = ap (λ (step : Step). is_entered step.reply) counts.step ∙ step_is_entered old.setup old.state actor call
+
+-- an entered call had room and memory
+pub entered_parts : (reply : Reply) → is_entered reply ≡ true → (says_full reply ≡ false) × (is_want_of_memory reply ≡ false)
+entered_parts reply is = both (says_full reply) (is_want_of_memory reply) is
+  where
+    both : (a b : Bool) → (not a && not b) ≡ true → (a ≡ false) × (b ≡ false)
+    both false false is = (refl, refl)
+    both false true is = absurd cc
+    both true b is = absurd cc
 
 less_one : (n : ℕ) → n + 1 - 1 ≡ n
 less_one n = omega arith

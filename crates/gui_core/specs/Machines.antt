@@ -1,4 +1,5 @@
--- The core as its callers see it: its state with what it was opened with.
+-- The core's state with what it was opened with, and how calls are counted. Of these, contracts of
+-- public functions name `IsConfig` alone.
 use Rattle.std.specs.Prelude.{◌≡◌, ℕ, ◌+◌, ◌≤◌, Bool, true, false, None, if◌then◌else◌, length}
 use Rattle.paint_ops.specs.Kinds.{Assets}
 use Rattle.paint_ops.specs.Soundness.{IsSound}
@@ -19,8 +20,8 @@ pub record Machine : Type 0 where
   pub refused : ℕ
 
 -- before the first call
-abbrev pub starting : Assets → Config → Machine
-starting assets config =
+abbrev pub machine_for : Assets → Config → Machine
+machine_for assets config =
     let setup = setup_for assets config in
     record { setup = setup; state = opening setup; made = 0; refused = 0 }
 
@@ -43,7 +44,7 @@ pub record TakesAlike (old : Machine) (call : Call) (new : Machine) (reply : Rep
   pub by : (actor : ℕ) → Takes old actor call new reply
 
 -- a call took one step, and was counted
-pub record Answers (old : Machine) (actor : ℕ) (call : Call) (new : Machine)
+pub record Counts (old : Machine) (actor : ℕ) (call : Call) (new : Machine)
     (reply : Reply) : Type 0 where
   pub setup : new.setup ≡ old.setup
   pub step : ◌≡◌ {A = Step} (record { state = new.state; reply = reply })

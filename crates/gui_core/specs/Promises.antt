@@ -31,7 +31,7 @@ IsPainterOutside setup s stain =
     → stain (point_at (pos x) (pos y)) ≡ false
     → colour_at (latest s) x y ≡ colour_at (painter setup s.windows) x y
 
--- no window waits to be painted
+-- no window is invalid
 abbrev pub NoneInvalid : List Win → Type 0
 NoneInvalid ws = list_any is_invalid ws ≡ false
 

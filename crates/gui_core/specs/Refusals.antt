@@ -1,4 +1,5 @@
--- How the refusals of the tree and the devices are answered. No contract of a public function names these.
+-- How the refusals of the tree and the devices are answered. No contract of a public function names
+-- these.
 use Rattle.std.specs.Prelude.{◌≡◌, ℕ, ◌+◌, List, Option, Some, None, Result, Ok, Err}
 use Rattle.context.specs.Contexts.{Owned, with_owned}
 use Rattle.scene.specs.declared.win.Win.{Win}

@@ -1,158 +1,92 @@
-ghost use Rattle.std.specs.Prelude.{◌≡◌, ◌+◌, ◌<◌, ◌≤◌, true, false, length, IfOk, OnErr};
-ghost use Rattle.std.specs.List.{AllByRecursion};
+//! The core as its callers see it: the history of its calls, and what these come to.
+
+ghost use Rattle.std.specs.Prelude.{◌≡◌, ◌≤◌, true, false, length, IfOk};
 ghost use Rattle.paint_ops.specs.Soundness.{IsSound};
 ghost use Rattle.calls.specs.Actors.{fits};
+ghost use Rattle.gui_core.specs.Setups.{painter};
+ghost use Rattle.gui_core.specs.States.{is_want_of_memory};
+ghost use Rattle.gui_core.specs.Machines.{IsConfig};
 
-use crate::change::Change;
-use crate::contexts::{ContextChange, change_context};
-use crate::surfaces::Surfaces;
-use crate::windows::{NewWindow, Windows};
-use calls::{Call, Config, Refusal, Reply};
-use context::Contexts;
+use crate::engine::Engine;
+use calls::{Call, Config, Entry, Refusal, Reply};
 use frame::Frame;
-use gfx_base::{Memory, Rect};
-use invalidate::first_invalid;
-use paint_ops::{Assets, Class};
-use scene::{Stack, paint_whole, screen};
+use gfx_base::Memory;
+use paint_ops::Assets;
+use scene::Stack;
 use std::alloc::Global;
 use std::marker::Model;
-use strokes::Shape;
 
-/// The core of one screen.
+/// The core of one screen. Contracts see what it was opened with, and the history of its calls: all
+/// else is what these come to, one after the other.
 #[derive(Drop)]
 pub struct Gui {
-    config: Config,
-    assets: Assets,
-    windows: Windows,
-    contexts: Contexts,
-    surfaces: Surfaces,
-    made: u32,
-    refused: u32,
+    engine: Engine,
+    history: Vec<Entry>,
 }
 
 impl Model for Gui {
-    ghost use Rattle.gui_core.specs.Machines.{Machine, IsKept};
+    ghost use Rattle.std.specs.Prelude.{vec_capacity};
+    ghost use Rattle.gui_core.specs.Histories.{Chronicle, IsRecorded};
 
-    ghost Value = { Machine };
+    ghost Value = { Chronicle };
 
-    ghost view = { λ g. record {
-      setup = record { config = g.config; assets = g.assets };
-      state = record {
-        windows = g.windows.windows;
-        handles = g.windows.handles;
-        shown = g.surfaces.shown;
-        contexts = g.contexts;
-        devices = g.surfaces.devices;
-      };
-      made = g.made;
-      refused = g.refused;
-    } };
+    ghost view = { λ g. record { setup = g.engine.setup; history = g.history.items } };
 
-    ghost invariant = { λ g. IsKept (record {
-      setup = record { config = g.config; assets = g.assets };
-      state = record {
-        windows = g.windows.windows;
-        handles = g.windows.handles;
-        shown = g.surfaces.shown;
-        contexts = g.contexts;
-        devices = g.surfaces.devices;
-      };
-      made = g.made;
-      refused = g.refused;
-    }) };
-}
-
-/// Assets with the desktop's class in the place of class 0, which is there.
-fn with_desktop(alloc: Global, mut assets: Assets, config: &Config) -> Assets
-    requires { 1 ≤ length assets.classes }
-    ensures { result ≡ assets_with_desktop config.now.desktop assets }
-{
-    assets.classes[0] = Class {
-        back: Some(config.desktop),
-        ops: Vec::new(alloc),
-        reactions: Vec::new(alloc),
-    };
-    assets
-}
-
-ghost use Rattle.gui_core.specs.Setups.{assets_with_desktop};
-ghost use Rattle.gui_core.specs.Refusals.{answered};
-
-/// How many classes there are, with the desktop's.
-fn class_count(assets: &Assets) -> usize
-    ensures { result ≡ length assets.now.classes }
-{
-    assets.classes.len()
-}
-
-/// How many fonts there are.
-fn font_count(assets: &Assets) -> usize
-    ensures { result ≡ length assets.now.fonts }
-{
-    assets.fonts.len()
-}
-
-/// The reply to a call that gives nothing.
-fn answered(answer: Result<(), Refusal>) -> Reply
-    ensures { result ≡ answered answer }
-{
-    match answer {
-        Ok(()) => Reply::Done,
-        Err(refusal) => Reply::Refused(refusal),
-    }
+    ghost invariant = { λ g. IsRecorded g.engine g.history.items (vec_capacity g.history) };
 }
 
 impl Gui {
-    ghost use Rattle.std.specs.Prelude.{if◌then◌else◌, Some, position};
-    ghost use Rattle.std.specs.List.{list_any};
-    ghost use Rattle.gui_core.specs.Setups.{painter};
-    ghost use Rattle.invalidate.specs.Invalidation.{is_invalid};
-    ghost use Rattle.calls.specs.declared.call.Call.TheVariants.{Create};
-    ghost use Rattle.gui_core.specs.Jobs.{jobs_of};
-    ghost use Rattle.calls.specs.declared.call.Call.TheVariants.{DevCreate, DevDelete, DevCopy, SetMemdev};
-    ghost use Rattle.gui_core.specs.Changes.{call_for, context_call, stroke_call};
-    ghost use Rattle.gui_core.specs.States.{after_job, after_jobs, is_refused, is_want_of_memory};
-    ghost use Rattle.gui_core.specs.Machines.{IsConfig, Takes, TakesAlike, Answers, IsUnmade, starting};
+    ghost use Rattle.gui_core.specs.Histories.{starting, state_of, refused_of, is_full, says_full, is_entered, IsLegal, Answers, MayMakeDevice};
 
-    /// The desktop alone, which waits to be painted, on a black picture. What windows paint with is
-    /// sound and has a class 0, in whose place comes the desktop's: the configuration's colour
-    /// alone. The screen has from 1 by 1 to 1,024 by 768 points. Refused for want of memory alone;
-    /// no later call takes any but the one that makes a device.
+    /// The desktop alone, which is invalid, on a black picture, and an empty history. What windows
+    /// paint with is sound and has a class 0, in whose place comes the desktop's: the
+    /// configuration's colour alone. The screen has from 1 by 1 to 1,024 by 768 points. Refused for
+    /// want of memory alone; no later call takes any but the one that makes a device.
     pub fn open_alone(alloc: Global, assets: Assets, config: Config) -> Result<Gui, Memory>
         requires config { IsConfig config }
         requires assets { IsSound assets }
         requires desktop { 1 ≤ length assets.classes }
         ensures { IfOk result (λ gui. gui ≡ starting assets config) }
     {
-        let surfaces = Surfaces::open(alloc, config.w, config.h)?;
-        let windows = Windows::open(alloc, config.w, config.h)?;
-        let assets = with_desktop(alloc, assets, &config);
-        let contexts = Contexts::new();
-        Ok(Gui {
-            config,
-            assets,
-            windows,
-            contexts,
-            surfaces,
-            made: 0,
-            refused: 0,
-        })
+        let Ok(history) = Vec::with_capacity(alloc, config.calls as usize) else {
+            return Err(Memory);
+        };
+        let engine = Engine::open(alloc, assets, config)?;
+        Ok(Gui { engine, history })
+    }
+
+    /// All calls that were made, in order, each with its actor. They are one legal sequence: each
+    /// actor may make its calls, and there are no more of them than the core was opened for.
+    pub fn history(&self) -> &[Entry]
+        ensures entries { result.now ≡ self.now.history }
+        ensures legal { IsLegal self.now }
+    {
+        self.history.as_slice()
+    }
+
+    /// The history alone.
+    pub fn into_history(self) -> Vec<Entry>
+        ensures entries { result.items ≡ self.history }
+        ensures legal { IsLegal self }
+    {
+        let Gui { engine: _, history } = self;
+        history
     }
 
     /// The picture that is shown.
     pub fn shown(&self) -> &Frame
-        ensures { result.now.picture ≡ self.now.state.shown }
+        ensures { result.now.picture ≡ (state_of self.now).shown }
     {
-        self.surfaces.shown()
+        self.engine.shown()
     }
 
     /// Puts the windows, from back to front, into `out`.
     pub fn windows(&self, out: &mut Stack)
-        ensures { out.new.items ≡ self.now.state.windows }
+        ensures { out.new.items ≡ (state_of self.now).windows }
     {
         out.clear();
         // Both hold as many, so this can't fail.
-        let copied = out.try_extend_from_slice(self.windows.stack()).is_ok();
+        let copied = out.try_extend_from_slice(self.engine.windows()).is_ok();
         prove!(copied);
     }
 
@@ -160,335 +94,61 @@ impl Gui {
     pub fn assets(&self) -> &Assets
         ensures { result.now ≡ self.now.setup.assets }
     {
-        &self.assets
+        self.engine.assets()
     }
 
-    /// How many calls were refused.
+    /// How many calls of the history were refused.
     pub fn refused(&self) -> u32
-        ensures { result ≡ self.now.refused }
+        ensures { result ≡ refused_of self.now }
     {
-        self.refused
+        self.engine.refused()
     }
 
     /// The painter's picture of the windows, in the frame that showed the picture.
     pub fn into_painted(self) -> Frame
-        ensures { result.picture ≡ painter self.setup self.state.windows }
+        ensures { result.picture ≡ painter self.setup (state_of self).windows }
     {
-        let Gui {
-            config: _,
-            assets,
-            windows,
-            contexts: _,
-            surfaces,
-            made: _,
-            refused: _,
-        } = self;
-        let mut shown = surfaces.into_shown();
-        paint_whole(windows.stack(), &assets, &mut shown);
-        shown
+        let Gui { engine, history: _ } = self;
+        engine.into_painted()
     }
 
-    /// The first window that waits to be painted.
-    fn next_job(&self) -> Option<usize>
-        ensures next { result ≡ position is_invalid self.now.state.windows }
-        ensures few { length self.now.state.windows ≤ 256 }
+    /// Whether as many calls were made as the core was opened for.
+    fn is_full(&self) -> bool
+        ensures { result ≡ is_full self.now }
     {
-        first_invalid(self.windows.stack())
+        self.engine.made() >= self.engine.most_calls()
     }
 
-    fn do_job(&mut self, which: usize)
-        requires { position is_invalid self.old.state.windows ≡ Some which }
-        ensures { self.new ≡ record self.old { state = after_job self.old.setup self.old.state } }
-    {
-        self.surfaces
-            .paint(self.windows.stack(), which, &self.assets);
-        self.windows.make_valid(which);
-    }
-
-    /// Paints until no window waits for it, and tells how many jobs that took.
-    fn exec(&mut self) -> u16
-        ensures jobs { result ≡ jobs_of self.old.state.windows }
-        ensures state { self.new
-            ≡ record self.old {
-              state = after_jobs self.old.setup
-                  (jobs_of self.old.state.windows) self.old.state;
-            } }
-    {
-        let mut jobs = 0;
-        while let Some(which) = self.next_job() {
-            self.do_job(which);
-            jobs += 1;
-        }
-        jobs
-    }
-
-    /// Does the first job, if there is one, and tells how many that were.
-    fn exec1(&mut self) -> u16
-        ensures jobs { result ≡ (if list_any is_invalid self.old.state.windows then 1 else 0) }
-        ensures state { self.new
-            ≡ record self.old { state = after_jobs self.old.setup result self.old.state } }
-    {
-        match self.next_job() {
-            Some(which) => {
-                self.do_job(which);
-                1
-            }
-            None => 0,
-        }
-    }
-
-    fn create(&mut self, new: &NewWindow) -> Reply
-        requires { self.old.state.handles ≤ self.old.made }
-        ensures { let n = new.now in
-            TakesAlike self.old (Create n.parent n.x n.y n.w n.h n.class) self.new result }
-    {
-        let screen = screen(self.config.w, self.config.h);
-        match self.windows.create(new, class_count(&self.assets), &screen) {
-            Ok(handle) => Reply::Handle(handle),
-            Err(refusal) => Reply::Refused(refusal),
-        }
-    }
-
-    fn change(&mut self, h: u32, change: Change) -> Reply
-        ensures { TakesAlike self.old (call_for h change) self.new result }
-    {
-        let screen = screen(self.config.w, self.config.h);
-        answered(
-            self.windows
-                .change(h, change, class_count(&self.assets), &screen),
-        )
-    }
-
-    fn set_memdev(&mut self, h: u32, memdev: bool) -> Reply
-        ensures { TakesAlike self.old (SetMemdev h memdev) self.new result }
-    {
-        answered(self.windows.set_memdev(h, memdev))
-    }
-
-    fn set_value(&mut self, h: u32, index: u8, value: i16) -> Reply
-        ensures { TakesAlike self.old (Call.SetValue h index value) self.new result }
-    {
-        let screen = screen(self.config.w, self.config.h);
-        answered(self.windows.set_value(h, index, value, &screen))
-    }
-
-    fn send(&mut self, h: u32, message: u8, argument: i16) -> Reply
-        ensures { TakesAlike self.old (Call.Send h message argument) self.new result }
-    {
-        let screen = screen(self.config.w, self.config.h);
-        answered(
-            self.windows
-                .send(h, message, argument, &self.assets, &screen),
-        )
-    }
-
-    fn invalidate(&mut self, h: u32) -> Reply
-        ensures { TakesAlike self.old (Call.Invalidate h) self.new result }
-    {
-        let screen = screen(self.config.w, self.config.h);
-        answered(self.windows.invalidate(h, &screen))
-    }
-
-    fn invalidate_rect(&mut self, h: u32, local: &Rect) -> Reply
-        requires { IsLocal local.now }
-        ensures { let r = local.now in
-            TakesAlike self.old (Call.InvalidateRect h r.x0 r.y0 r.x1 r.y1) self.new result }
-    {
-        let screen = screen(self.config.w, self.config.h);
-        answered(self.windows.invalidate_rect(h, local, &screen))
-    }
-
-    fn invalidate_area(&mut self, area: &Rect) -> Reply
-        ensures { let r = area.now in
-            TakesAlike self.old (Call.InvalidateArea r.x0 r.y0 r.x1 r.y1) self.new result }
-    {
-        let screen = screen(self.config.w, self.config.h);
-        self.windows.invalidate_area(area, &screen);
-        Reply::Done
-    }
-
-    fn change_context(&mut self, task: u16, change: ContextChange) -> Reply
-        requires { (1 ≤ task) × (task ≤ 16) }
-        ensures { Takes self.old task (context_call change) self.new result }
-    {
-        answered(change_context(
-            &mut self.contexts,
-            task,
-            change,
-            &self.windows,
-            &self.surfaces,
-            font_count(&self.assets),
-        ))
-    }
-
-    fn stroke(&mut self, task: u16, shape: &Shape) -> Reply
-        requires { (1 ≤ task) × (task ≤ 16) }
-        ensures { Takes self.old task (stroke_call shape.now) self.new result }
-    {
-        answered(
-            self.surfaces.draw(
-                self.windows.stack(),
-                self.contexts.get(task),
-                shape,
-                &self.assets,
-            ),
-        )
-    }
-
-    fn copy_device(&mut self, actor: u16, device: u32, x: i16, y: i16) -> Reply
-        requires { (1 ≤ actor) × (actor ≤ 16) }
-        ensures { Takes self.old actor (DevCopy device x y) self.new result }
-    {
-        answered(
-            self.surfaces.copy(
-                self.windows.stack(),
-                self.contexts.get(actor),
-                device,
-                x,
-                y,
-                &self.assets,
-            ),
-        )
-    }
-
-    fn delete_device(&mut self, task: u16, device: u32) -> Reply
-        ensures { Takes self.old task (DevDelete device) self.new result }
-    {
-        answered(self.surfaces.discard(device))
-    }
-
-    /// Makes a device of the colour that is behind the task's text.
-    fn create_device(&mut self, alloc: Global, task: u16, w: u16, h: u16) -> Result<Reply, Memory>
-        requires task { (1 ≤ task) × (task ≤ 16) }
-        requires handles { self.old.state.devices.handles < self.old.made }
-        ensures made { IfOk result
-            (λ reply. Takes self.old task (DevCreate w h) self.new reply) }
-        ensures unmade { OnErr result (IsUnmade self.old task (DevCreate w h) self.new) }
-    {
-        let colour = self.contexts.get(task).bk;
-        match self.surfaces.make(alloc, w, h, colour) {
-            Ok(device) => Ok(Reply::Device(device)),
-            Err(Refusal::Memory) => Err(Memory),
-            Err(refusal) => Ok(Reply::Refused(refusal)),
-        }
-    }
-
-    /// Makes a call of an actor that is counted already. Without memory for a device nothing changes.
-    fn take(&mut self, alloc: Global, actor: u16, call: &Call) -> Result<Reply, Memory>
-        requires actor { (1 ≤ actor) × (actor ≤ 16) }
-        requires handles { self.old.state.handles ≤ self.old.made }
-        requires devices { self.old.state.devices.handles < self.old.made }
-        ensures made { IfOk result (λ reply. Takes self.old actor call.now self.new reply) }
-        ensures unmade { OnErr result (IsUnmade self.old actor call.now self.new) }
-    {
-        Ok(match *call {
-            Call::Create {
-                parent,
-                x,
-                y,
-                w,
-                h,
-                class,
-            } => self.create(&NewWindow {
-                parent,
-                x,
-                y,
-                w,
-                h,
-                class,
-            }),
-            Call::Delete { h } => self.change(h, Change::Delete),
-            Call::MoveTo { h, x, y } => self.change(h, Change::MoveTo { x, y }),
-            Call::MoveBy { h, dx, dy } => self.change(h, Change::MoveBy { dx, dy }),
-            Call::Resize { h, width, height } => self.change(h, Change::Resize { width, height }),
-            Call::Show { h } => self.change(h, Change::Show),
-            Call::Hide { h } => self.change(h, Change::Hide),
-            Call::ToTop { h } => self.change(h, Change::ToTop),
-            Call::ToBottom { h } => self.change(h, Change::ToBottom),
-            Call::SetClass { h, class } => self.change(h, Change::SetClass { class }),
-            Call::SetTrans { h, trans } => self.change(h, Change::SetTrans { trans }),
-            Call::SetMemdev { h, memdev } => self.set_memdev(h, memdev),
-            Call::SetValue { h, index, value } => self.set_value(h, index, value),
-            Call::Send {
-                h,
-                message,
-                argument,
-            } => self.send(h, message, argument),
-            Call::Select { h } => self.change_context(actor, ContextChange::Select { h }),
-            Call::DevSelect { device } => {
-                self.change_context(actor, ContextChange::Device { device })
-            }
-            Call::Colour { c } => self.change_context(actor, ContextChange::Colour { c }),
-            Call::BkColour { c } => self.change_context(actor, ContextChange::BkColour { c }),
-            Call::TextMode { trans } => {
-                self.change_context(actor, ContextChange::TextMode { trans })
-            }
-            Call::Font { font } => self.change_context(actor, ContextChange::Font { font }),
-            Call::Save => self.change_context(actor, ContextChange::Save),
-            Call::Restore => self.change_context(actor, ContextChange::Restore),
-            Call::Fill { x0, y0, x1, y1 } => self.stroke(actor, &Shape::Fill(x0, y0, x1, y1)),
-            Call::Frame { x0, y0, x1, y1 } => self.stroke(actor, &Shape::Frame(x0, y0, x1, y1)),
-            Call::Line { x0, y0, x1, y1 } => self.stroke(actor, &Shape::Line(x0, y0, x1, y1)),
-            Call::Bitmap { bitmap, x, y } => self.stroke(actor, &Shape::Bitmap(bitmap, x, y)),
-            Call::Text { x, y, string } => self.stroke(actor, &Shape::Text(x, y, string)),
-            Call::DevCreate { w, h } => self.create_device(alloc, actor, w, h)?,
-            Call::DevDelete { device } => self.delete_device(actor, device),
-            Call::DevCopy { device, x, y } => self.copy_device(actor, device, x, y),
-            Call::Invalidate { h } => self.invalidate(h),
-            Call::InvalidateRect { h, x0, y0, x1, y1 } => {
-                self.invalidate_rect(h, &local_rect(x0, y0, x1, y1))
-            }
-            Call::InvalidateArea { x0, y0, x1, y1 } => {
-                self.invalidate_area(&local_rect(x0, y0, x1, y1))
-            }
-            Call::Exec => Reply::Jobs(self.exec()),
-            Call::Exec1 => Reply::Jobs(self.exec1()),
-            Call::Scan => Reply::Done,
-        })
-    }
-
-    /// Makes a call of an actor who may make it, and gives its reply. Fewer calls were made than
-    /// the core was opened for. A refused call changes nothing but the number of refused calls.
-    /// Making a device takes memory. Where there is none for it, though nothing else is held
-    /// against it, that is the answer, and the call isn't made: nothing at all changes. No other
+    /// Makes a call of an actor who may make it, enters it into the history, and gives its reply:
+    /// that of the step at its place. A refused call changes nothing but the history, of which it
+    /// is a part too.
+    ///
+    /// Two replies tell that the call wasn't made and isn't entered, and then nothing at all
+    /// changes. `Full` comes just where as many calls were made as the core was opened for. `Memory`
+    /// comes where there is none for a device, though nothing else is held against it. No other
     /// call takes memory, and none of today gives bytes into `_room`.
     pub fn apply(&mut self, alloc: Global, actor: u16, call: &Call, _room: &mut Vec<u8>) -> Reply
         requires fits { fits call.now actor ≡ true }
-        requires room { self.old.made < self.old.setup.config.calls }
-        ensures answers { is_want_of_memory result ≡ false
+        ensures full { says_full result ≡ is_full self.old }
+        ensures answers { is_entered result ≡ true
             → Answers self.old actor call.now self.new result }
+        ensures left_out { is_entered result ≡ false → self.new ≡ self.old }
         ensures unmade { is_want_of_memory result ≡ true
-            → IsUnmade self.old actor call.now self.new }
+            → MayMakeDevice self.old actor call.now }
         ensures bytes { _room.new ≡ _room.old }
     {
-        self.made += 1;
-        match self.take(alloc, actor, call) {
+        if self.is_full() {
+            return Reply::Refused(Refusal::Full);
+        }
+        match self.engine.apply(alloc, actor, call) {
             Ok(reply) => {
-                if let Reply::Refused(_) = reply {
-                    self.refused += 1;
-                }
+                self.history.push_reserved(Entry::Call {
+                    actor,
+                    call: call.copy(),
+                });
                 reply
             }
-            Err(Memory) => {
-                self.made -= 1;
-                Reply::Refused(Refusal::Memory)
-            }
+            Err(Memory) => Reply::Refused(Refusal::Memory),
         }
-    }
-}
-
-ghost use Rattle.gui_core.specs.States.{rect_with};
-ghost use Rattle.invalidate.specs.Invalidation.{IsLocal};
-
-/// The rectangle with these corners.
-fn local_rect(x0: i16, y0: i16, x1: i16, y1: i16) -> Rect
-    ensures value { result ≡ rect_with x0 y0 x1 y1 }
-    ensures local { IsLocal result }
-{
-    Rect {
-        x0: i32::from(x0),
-        y0: i32::from(y0),
-        x1: i32::from(x1),
-        y1: i32::from(y1),
     }
 }

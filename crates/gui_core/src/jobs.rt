@@ -1,4 +1,4 @@
-//! The first window that waits to be painted.
+//! The first invalid window.
 
 ghost use Rattle.std.specs.Prelude.{◌≡◌, Some, position};
 ghost use Rattle.invalidate.specs.Invalidation.{is_invalid};
@@ -6,7 +6,7 @@ ghost use Rattle.gui_core.specs.Jobs.{windows_after_job};
 
 use scene::Win;
 
-/// The first window that waits to be painted, which is the one at `which`, waits no more.
+/// The first invalid window, which is the one at `which`, is no longer invalid.
 pub fn make_valid(windows: &mut [Win], which: usize)
     requires { position is_invalid windows.old ≡ Some which }
     ensures { windows.new ≡ windows_after_job windows.old }

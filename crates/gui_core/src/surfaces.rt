@@ -192,8 +192,8 @@ impl Surfaces {
         Ok(())
     }
 
-    /// Draws a shape with a context, on the device that it selects, or while it selects none on what
-    /// can be seen of the window that it selects.
+    /// Draws a shape with a context, on the device that it selects, or while it selects none on
+    /// what can be seen of the window that it selects.
     pub fn draw(
         &mut self,
         stack: &[Win],

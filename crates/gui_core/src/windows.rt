@@ -222,8 +222,7 @@ fn make_valid_at(stack: &mut Stack, which: usize)
     make_valid(stack.as_mut_slice(), which);
 }
 
-/// Whether both windows have the same values and wait to be painted in one rectangle, or neither
-/// does.
+/// Whether both windows have the same values and the same invalid rectangle, if any.
 fn are_alike(w: &Win, v: &Win) -> bool
     ensures { OnTrue result
         ((w.now.invalid ≡ v.now.invalid) × (w.now.values ≡ v.now.values)) }

@@ -9,7 +9,7 @@ AreMarks [] = Unit {0}
 AreMarks (Mark m n ∷ entries) = AreMarks entries
 AreMarks (Made a c ∷ entries) = ⊥
 
--- the item in front of the list, where it is taken
+-- the item at the head of the list, where it is taken
 abbrev pub pick : {C : Type 0} → Bool → C → List C → List C
 pick true c cs = c ∷ cs
 pick false c cs = cs
@@ -26,7 +26,7 @@ AreByPasses passes entries = (k : ℕ) → (k < 1) ⊎ (passes < k) → calls_by
 
 -- one list begins another
 abbrev pub Begins : {C : Type 0} → List (Entry C) → List (Entry C) → Type 0
-Begins {C} front whole = (rest : List (Entry C)) × (whole ≡ front ++ rest)
+Begins {C} prefix whole = (rest : List (Entry C)) × (whole ≡ prefix ++ rest)
 
 -- the entry of a call, where it is added
 abbrev pub own : {C : Type 0} → Bool → ℕ → C → List (Entry C)

@@ -33,12 +33,12 @@ pub row_copied : (p : Picture) (x y w v at to n m : ℕ) (old part : List ℕ) �
 row_copied p x y w v at to n m old part shape across down place end room is wide before =
     let row_long = length_row p (y + v) shape down in
     let part_long : length part ≡ w = ap length is ∙ (length-take-le n (drop x (row_at p (y + v))) (omega (arith, row_long, length-drop x (row_at p (y + v)))) ∙ wide) in
-    let front_long = length-take-le at old room in
+    let prefix_long = length-take-le at old room in
     take-put_mid at m old part to (omega (arith, part_long, end)) room
-    ∙ fill_by_all (point_in p x y w) (take at old ++ part) to 0 (omega (arith, end, length-append (take at old) part, part_long, front_long)) (λ k lt.
+    ∙ fill_by_all (point_in p x y w) (take at old ++ part) to 0 (omega (arith, end, length-append (take at old) part, part_long, prefix_long)) (λ k lt.
     elim (cases_lt k at) [
       | inl less ↦
-          get_or_append_left (take at old) part 0 k (omega (arith, front_long, less))
+          get_or_append_left (take at old) part 0 k (omega (arith, prefix_long, less))
           ∙ ap (λ (xs : List ℕ). get_or xs k 0) before
           ∙ get_or-map-range_with_len (point_in p x y w) 0 at k k 0 less (omega arith)
       | inr from ↦
@@ -46,7 +46,7 @@ row_copied p x y w v at to n m old part shape across down place end room is wide
           let in_row : k - at < w = omega (arith, lt, from, end) in
           let column : k % w ≡ k - at = ap (λ i. i % w) e ∙ mod-mul-add v w (k - at) in_row in
           let row : k / w ≡ v = ap (λ i. i / w) e ∙ div-mul-add v w (k - at) in_row in
-          get_or-append_right (take at old) part at k 0 front_long from
+          get_or-append_right (take at old) part at k 0 prefix_long from
           ∙ ap (λ (xs : List ℕ). get_or xs (k - at) 0) is
           ∙ row_point p x (y + v) n (k - at) shape down (omega (arith, wide, across)) (omega (arith, wide, in_row))
           ∙ rw (column, row) refl

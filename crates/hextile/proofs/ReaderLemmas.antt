@@ -1,4 +1,4 @@
--- What holds of each reader: it takes a front that alone decides what it gives, and where it stops,
+-- What holds of each reader: it takes a prefix that alone decides what it gives, and where it stops,
 -- the bytes before that place can be completed, and with the one there they can't.
 use Rattle.std.proofs.Common.{◌≡◌, ◌⊎◌, ℕ, zero, suc, ◌+◌, ◌-◌, ◌<◌, ◌≤◌, Bool, true, false, List, [], ◌∷◌, ◌++◌, length, take, drop, replicate, Ok, Err, refl, sym, ap, ◌∙◌, inl, inr, arith}
 use Rattle.std.proofs.lemmas.Bool.{cases_Bool, lt-ltb, le-ltb, cases_lt}
@@ -23,9 +23,9 @@ pub bytes_zeros : (n : ℕ) → AreBytes (replicate n 0)
 bytes_zeros zero = tt
 bytes_zeros (suc n) = (omega arith, bytes_zeros n)
 
--- the reader takes this front and gives the value, whatever follows
+-- the reader takes this prefix and gives the value, whatever follows
 abbrev pub Takes : {A : Type 0} → (List ℕ → Read A) → List ℕ → A → Type 0
-Takes reader front x = (rest : List ℕ) → reader (front ++ rest) ≡ Ok (x, rest)
+Takes reader prefix x = (rest : List ℕ) → reader (prefix ++ rest) ≡ Ok (x, rest)
 
 -- the reader stops where these bytes are left
 pub record Stops {A : Type 0} (reader : List ℕ → Read A) (bytes : List ℕ) (left : ℕ) : Type 0 where
@@ -40,7 +40,7 @@ pub record Stops {A : Type 0} (reader : List ℕ → Read A) (bytes : List ℕ) 
   pub wrong : (b : ℕ) (tail : List ℕ) → bad ≡ b ∷ tail → (rest : List ℕ) → (x : A) → (last : List ℕ) → reader (good ++ (b ∷ rest)) ≡ Ok (x, last) → ⊥
 
 pub record IsReader {A : Type 0} (reader : List ℕ → Read A) : Type 0 where
-  pub takes : (bytes : List ℕ) (x : A) (rest : List ℕ) → reader bytes ≡ Ok (x, rest) → (front : List ℕ) × (bytes ≡ front ++ rest) × Takes reader front x
+  pub takes : (bytes : List ℕ) (x : A) (rest : List ℕ) → reader bytes ≡ Ok (x, rest) → (prefix : List ℕ) × (bytes ≡ prefix ++ rest) × Takes reader prefix x
   pub stops : (bytes : List ℕ) (left : ℕ) → reader bytes ≡ Err left → Stops reader bytes left
 
 abbrev pub ok_read : {A : Type 0} → A → List ℕ → Read A
@@ -76,7 +76,7 @@ reads_byte passes one good below = record {
   takes = takes;
   stops = stops;
 } where
-  takes : (bytes : List ℕ) (x : ℕ) (rest : List ℕ) → read_byte passes bytes ≡ Ok (x, rest) → (front : List ℕ) × (bytes ≡ front ++ rest) × Takes (read_byte passes) front x
+  takes : (bytes : List ℕ) (x : ℕ) (rest : List ℕ) → read_byte passes bytes ≡ Ok (x, rest) → (prefix : List ℕ) × (bytes ≡ prefix ++ rest) × Takes (read_byte passes) prefix x
   takes [] x rest e = absurd (cc)
   takes (b ∷ bs) x rest e =
       elim (cases_Bool (passes b)) [
@@ -134,8 +134,8 @@ Gives reader x = (bytes rest : List ℕ) × (reader bytes ≡ Ok (x, rest))
 abbrev pub both : {A B : Type 0} → (List ℕ → Read A) → (A → List ℕ → Read B) → List ℕ → Read B
 both first next bytes = on_read (first bytes) next
 
-pub both_take : {A B : Type 0} (first : List ℕ → Read A) (next : A → List ℕ → Read B) (x : A) (front later : List ℕ) (value : B) → Takes first front x → Takes (next x) later value → Takes (both first next) (front ++ later) value
-both_take first next x front later value a b rest = rw (append_assoc) (on_ok (first (front ++ (later ++ rest))) next x (later ++ rest) (a (later ++ rest)) ∙ b rest)
+pub both_take : {A B : Type 0} (first : List ℕ → Read A) (next : A → List ℕ → Read B) (x : A) (prefix later : List ℕ) (value : B) → Takes first prefix x → Takes (next x) later value → Takes (both first next) (prefix ++ later) value
+both_take first next x prefix later value a b rest = rw (append_assoc) (on_ok (first (prefix ++ (later ++ rest))) next x (later ++ rest) (a (later ++ rest)) ∙ b rest)
 
 both_wrong : {A B : Type 0} (first : List ℕ → Read A) (next : A → List ℕ → Read B) (bytes : List ℕ) (left : ℕ) (s : Stops first bytes left) (b : ℕ) (tail : List ℕ) → s.bad ≡ b ∷ tail → (rest : List ℕ) (x : B) (last : List ℕ) → both first next (s.good ++ (b ∷ rest)) ≡ Ok (x, last) → ⊥
 both_wrong first next bytes left s b tail f rest x last told =
@@ -153,7 +153,7 @@ pub record HasWord {A : Type 0} (reader : List ℕ → Read A) : Type 0 where
   pub read : Takes reader word value
 
 both_takes : {A B : Type 0} (first : List ℕ → Read A) (next : A → List ℕ → Read B) → IsReader first → ((x : A) → Gives first x → HasWord (next x))
-    → (bytes : List ℕ) (y : B) (rest : List ℕ) → both first next bytes ≡ Ok (y, rest) → (front : List ℕ) × (bytes ≡ front ++ rest) × Takes (both first next) front y
+    → (bytes : List ℕ) (y : B) (rest : List ℕ) → both first next bytes ≡ Ok (y, rest) → (prefix : List ℕ) × (bytes ≡ prefix ++ rest) × Takes (both first next) prefix y
 both_takes first next one other bytes y rest e =
     elim (read_cases (first bytes)) [
       | inl ok ↦

@@ -39,9 +39,9 @@ pub record TilesRead (f : Layout) (w h : ℕ) (known : Known) (found all : List 
   pub all_is : all ≡ found ++ more
   pub count : length more ≡ left
   pub shaped : AreShaped w h (length found) more
-  pub front : List ℕ
-  pub means : MeansTiles f known more front
-  pub parts : bytes ≡ front ++ rest
+  pub prefix : List ℕ
+  pub means : MeansTiles f known more prefix
+  pub parts : bytes ≡ prefix ++ rest
   pub are : AreBytes rest
 
 abbrev tile_with : ℕ → List ℕ → TileValues
@@ -52,7 +52,7 @@ pub tiles_sound : (f : Layout) (w h : ℕ) (known : Known) (found : List TileVal
 unfolding read_tiles
 tiles_sound f w h known found zero bytes all rest tells are count e =
     let same = ok_same e in
-    record { more = []; all_is = sym same.0 ∙ sym (append-nil found); count = refl; shaped = tt; front = []; means = refl; parts = same.1; are = subst AreBytes same.1 are }
+    record { more = []; all_is = sym same.0 ∙ sym (append-nil found); count = refl; shaped = tt; prefix = []; means = refl; parts = same.1; are = subst AreBytes same.1 are }
 tiles_sound f w h known found (suc left) bytes all rest tells are count e =
     let number = length found in
     let width = width_at w number in
@@ -68,17 +68,17 @@ tiles_sound f w h known found (suc left) bytes all rest tells are count e =
       all_is = r.all_is ∙ append_assoc found (t ∷ []) r.more;
       count = ap suc r.count;
       shaped = (refl, p.count, subst (λ (n : ℕ). AreShaped w h n r.more) long r.shaped);
-      front = p.front ++ r.front;
-      means = (p.front, r.front, b.value.after, refl, p.means, r.means);
-      parts = p.parts ∙ (ap (λ t. p.front ++ t) r.parts ∙ sym (append_assoc p.front r.front rest));
+      prefix = p.prefix ++ r.prefix;
+      means = (p.prefix, r.prefix, b.value.after, refl, p.means, r.means);
+      parts = p.parts ∙ (ap (λ t. p.prefix ++ t) r.parts ∙ sym (append_assoc p.prefix r.prefix rest));
       are = r.are;
     }
 
-pub tiles_complete : (f : Layout) (w h : ℕ) (known : Known) (found more : List TileValues) (front : List ℕ) → Tells f → length found + length more ≡ tiles_along h * tiles_along w → AreShaped w h (length found) more
-    → MeansTiles f known more front → Takes (read_tiles f w h known found (length more)) front (found ++ more)
+pub tiles_complete : (f : Layout) (w h : ℕ) (known : Known) (found more : List TileValues) (prefix : List ℕ) → Tells f → length found + length more ≡ tiles_along h * tiles_along w → AreShaped w h (length found) more
+    → MeansTiles f known more prefix → Takes (read_tiles f w h known found (length more)) prefix (found ++ more)
 unfolding read_tiles
-tiles_complete f w h known found [] front tells count shaped means rest = rw (means, append-nil found) refl
-tiles_complete f w h known found (t ∷ more) front tells count shaped means rest =
+tiles_complete f w h known found [] prefix tells count shaped means rest = rw (means, append-nil found) refl
+tiles_complete f w h known found (t ∷ more) prefix tells count shaped means rest =
     let number = length found in
     let width = width_at w number in
     let height = height_at w h number in
@@ -136,7 +136,7 @@ rectangle_complete f w h bytes values tells means rest =
 pub decodes : (f : Layout) (w h : ℕ) (bytes values : List ℕ) → Tells f → AreBytes bytes → length values ≡ h * w → read_rectangle f w h bytes ≡ Ok (tiles_of w h values, []) → DecodesTo f w h bytes values
 decodes f w h bytes values tells are count e =
     let r = rectangle_sound f w h bytes (tiles_of w h values) [] tells are e in
-    let whole : bytes ≡ r.front = r.parts ∙ append-nil r.front in
+    let whole : bytes ≡ r.prefix = r.parts ∙ append-nil r.prefix in
     record { count_is = count; tiles = subst (λ (ts : List TileValues). MeansTiles f nothing_known ts bytes) (sym r.all_is) (subst (λ (bs : List ℕ). MeansTiles f nothing_known r.more bs) (sym whole) r.means) }
 
 joined_long : (w h : ℕ) (tiles : List TileValues) → length (joined w h tiles) ≡ h * w
@@ -208,14 +208,14 @@ bad_stop f w h bytes left tells are e =
 pub bad_rest : (f : Layout) (w h : ℕ) (bytes : List ℕ) (tiles : List TileValues) (rest : List ℕ) → Tells f → AreBytes bytes → 1 ≤ length rest → read_rectangle f w h bytes ≡ Ok (tiles, rest) → IsBadAt f w h bytes (length bytes - length rest)
 bad_rest f w h bytes tiles rest tells are some e =
     let t = (has_rectangle f w h).is_reader.takes bytes tiles rest e in
-    let front = t.0 in
-    let each = bytes_parts front rest (subst AreBytes t.1 are) in
-    let done : read_rectangle f w h front ≡ Ok (tiles, []) = rw append-nil at (t.2 []) in
-    let begun = reads_begin f w h front tiles tells each.0 done in
-    bad_at f w h bytes front rest (length rest) t.1 refl (bad_from f w h front rest
-    (λ values means. none rest some (ok_same (sym (t.2 rest) ∙ rw append-nil at (rectangle_complete f w h (front ++ rest) values tells means []))).1)
+    let prefix = t.0 in
+    let each = bytes_parts prefix rest (subst AreBytes t.1 are) in
+    let done : read_rectangle f w h prefix ≡ Ok (tiles, []) = rw append-nil at (t.2 []) in
+    let begun = reads_begin f w h prefix tiles tells each.0 done in
+    bad_at f w h bytes prefix rest (length rest) t.1 refl (bad_from f w h prefix rest
+    (λ values means. none rest some (ok_same (sym (t.2 rest) ∙ rw append-nil at (rectangle_complete f w h (prefix ++ rest) values tells means []))).1)
     ([], begun.0, rw append-nil begun.1)
-    (λ b tail later values same means. none (b ∷ later) (omega arith) (ok_same (sym (t.2 (b ∷ later)) ∙ rw append-nil at (rectangle_complete f w h (front ++ (b ∷ later)) values tells means []))).1))
+    (λ b tail later values same means. none (b ∷ later) (omega arith) (ok_same (sym (t.2 (b ∷ later)) ∙ rw append-nil at (rectangle_complete f w h (prefix ++ (b ∷ later)) values tells means []))).1))
   where
     none : (xs : List ℕ) → 1 ≤ length xs → xs ≡ [] → ⊥
     none [] some e = absurd (omega arith)

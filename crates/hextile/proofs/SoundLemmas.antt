@@ -94,29 +94,29 @@ both_read first next y rest e =
       | inr err ↦ absurd (let g = sym (on_err first next err.0 err.1) ∙ e in cc)
     ]
 
--- a front was taken, and means this; the rest are bytes still
-pub record Front (bytes rest : List ℕ) (Means : List ℕ → Type 0) : Type 0 where
-  pub front : List ℕ
-  pub means : Means front
-  pub parts : bytes ≡ front ++ rest
+-- a prefix was taken, and means this; the rest are bytes still
+pub record Prefix (bytes rest : List ℕ) (Means : List ℕ → Type 0) : Type 0 where
+  pub prefix : List ℕ
+  pub means : Means prefix
+  pub parts : bytes ≡ prefix ++ rest
   pub are : AreBytes rest
 
 pub given_sound : (f : Layout) (announced : Bool) (known : Option ℕ) (bytes : List ℕ) (value : Option ℕ) (rest : List ℕ) → Tells f → AreBytes bytes → read_given f announced known bytes ≡ Ok (value, rest)
-    → Front bytes rest (IsForeground f announced known value)
+    → Prefix bytes rest (IsForeground f announced known value)
 given_sound f true known bytes value rest tells are e =
     let b = both_read (read_pixel f bytes) (λ value rest. Ok (Some value, rest)) value rest e in
     let p = pixel_sound f bytes b.value b.middle tells are b.one in
     let same = ok_same b.two in
-    record { front = pixel_bytes f b.value; means = (b.value, p.below, sym same.0, refl); parts = p.parts ∙ ap (λ t. pixel_bytes f b.value ++ t) same.1; are = subst AreBytes same.1 p.are }
+    record { prefix = pixel_bytes f b.value; means = (b.value, p.below, sym same.0, refl); parts = p.parts ∙ ap (λ t. pixel_bytes f b.value ++ t) same.1; are = subst AreBytes same.1 p.are }
 given_sound f false known bytes value rest tells are e =
     let same = ok_same e in
-    record { front = []; means = (sym same.0, refl); parts = same.1; are = subst AreBytes same.1 are }
+    record { prefix = []; means = (sym same.0, refl); parts = same.1; are = subst AreBytes same.1 are }
 
-pub given_complete : (f : Layout) (announced : Bool) (known value : Option ℕ) (front : List ℕ) → Tells f → IsForeground f announced known value front → Takes (read_given f announced known) front value
-given_complete f true known value front tells means rest =
+pub given_complete : (f : Layout) (announced : Bool) (known value : Option ℕ) (prefix : List ℕ) → Tells f → IsForeground f announced known value prefix → Takes (read_given f announced known) prefix value
+given_complete f true known value prefix tells means rest =
     let p = pixel_complete f means.0 tells means.1 rest in
     rw (means.3, means.2) (on_ok (read_pixel f (pixel_bytes f means.0 ++ rest)) (λ v t. Ok (Some v, t)) means.0 rest p)
-given_complete f false known value front tells means rest = rw (means.1, means.0) refl
+given_complete f false known value prefix tells means rest = rw (means.1, means.0) refl
 
 -- ---- raw pixels
 
@@ -168,11 +168,11 @@ same_sub s t e1 e2 e3 e4 e5 = made s.value s.x s.y s.width s.height t.value t.x 
   made : (v x y w h v2 x2 y2 w2 h2 : ℕ) → v ≡ v2 → x ≡ x2 → y ≡ y2 → w ≡ w2 → h ≡ h2 → sub v x y w h ≡ sub v2 x2 y2 w2 h2
   made v x y w h v2 x2 y2 w2 h2 a b c d e = rw (a, b, c, d, e) refl
 
-value_sound : (f : Layout) (coloured : Bool) (fore value : Option ℕ) (front : List ℕ) → (coloured ≡ false → IsSome fore) → IsForeground f coloured fore value front
-    → HasValue f coloured fore (unwrap_or value 0) × (front ≡ cond coloured (pixel_bytes f (unwrap_or value 0)) [])
-value_sound f true fore value front needs means = let e : unwrap_or value 0 ≡ means.0 = rw means.2 refl in (rw e means.1, rw e means.3)
-value_sound f false None value front needs means = absurd (let g = needs refl in cc)
-value_sound f false (Some v) value front needs means = let e : unwrap_or value 0 ≡ v = rw means.0 refl in (rw e refl, means.1)
+value_sound : (f : Layout) (coloured : Bool) (fore value : Option ℕ) (prefix : List ℕ) → (coloured ≡ false → IsSome fore) → IsForeground f coloured fore value prefix
+    → HasValue f coloured fore (unwrap_or value 0) × (prefix ≡ cond coloured (pixel_bytes f (unwrap_or value 0)) [])
+value_sound f true fore value prefix needs means = let e : unwrap_or value 0 ≡ means.0 = rw means.2 refl in (rw e means.1, rw e means.3)
+value_sound f false None value prefix needs means = absurd (let g = needs refl in cc)
+value_sound f false (Some v) value prefix needs means = let e : unwrap_or value 0 ≡ v = rw means.0 refl in (rw e refl, means.1)
 
 pub byte_sound : (passes : ℕ → Bool) (bytes : List ℕ) (b : ℕ) (rest : List ℕ) → AreBytes bytes → read_byte passes bytes ≡ Ok (b, rest) → (bytes ≡ b ∷ rest) × (passes b ≡ true) × (b < 256) × AreBytes rest
 byte_sound passes bytes b rest are e =
@@ -181,7 +181,7 @@ byte_sound passes bytes b rest are e =
     (t.0, t.1, each.0, each.1)
 
 pub sub_sound : (f : Layout) (coloured : Bool) (fore : Option ℕ) (width height : ℕ) (bytes : List ℕ) (s : Sub) (rest : List ℕ) → Tells f → AreBytes bytes → (coloured ≡ false → IsSome fore)
-    → read_sub f coloured fore width height bytes ≡ Ok (s, rest) → Front bytes rest (λ front. IsSub f coloured fore width height s × (front ≡ bytes_of_sub f coloured s))
+    → read_sub f coloured fore width height bytes ≡ Ok (s, rest) → Prefix bytes rest (λ prefix. IsSub f coloured fore width height s × (prefix ≡ bytes_of_sub f coloured s))
 unfolding read_sub
 sub_sound f coloured fore width height bytes s rest tells are needs e =
     let b1 = both_read (read_given f coloured fore bytes) (λ value after. on_read (read_byte (is_place width height) after) (λ place last. on_read (read_byte (is_extent width height place) last) (λ size rest. Ok (sub_from value place size, rest)))) s rest e in
@@ -194,7 +194,7 @@ sub_sound f coloured fore width height bytes s rest tells are needs e =
     let size = b3.value in
     let q = byte_sound (is_extent width height place) b2.middle size b3.middle p.3 b3.one in
     let same = ok_same b3.two in
-    let v = value_sound f coloured fore value g.front needs g.means in
+    let v = value_sound f coloured fore value g.prefix needs g.means in
     let fits = and_parts _ _ q.1 in
     let across : place / 16 + (size / 16 + 1) ≤ width = leb-true _ _ fits.0 in
     let down : place % 16 + (size % 16 + 1) ≤ height = leb-true _ _ fits.1 in
@@ -204,9 +204,9 @@ sub_sound f coloured fore width height bytes s rest tells are needs e =
     let last : bytes_of_sub f coloured made ≡ cond coloured (pixel_bytes f (unwrap_or value 0)) [] ++ (place ∷ (size ∷ [])) = rw (one, two) refl in
     let is : IsSub f coloured fore width height made = record { value = v.0; some_width = omega arith; some_height = omega arith; across = across; down = down } in
     record {
-      front = bytes_of_sub f coloured made;
+      prefix = bytes_of_sub f coloured made;
       means = subst (λ (t : Sub). IsSub f coloured fore width height t × (bytes_of_sub f coloured made ≡ bytes_of_sub f coloured t)) same.0 (is, refl);
-      parts = g.parts ∙ (ap (λ t. g.front ++ t) (p.0 ∙ ap (λ t. place ∷ t) q.0) ∙ rw (last, v.1, same.1, append_assoc) refl);
+      parts = g.parts ∙ (ap (λ t. g.prefix ++ t) (p.0 ∙ ap (λ t. place ∷ t) q.0) ∙ rw (last, v.1, same.1, append_assoc) refl);
       are = subst AreBytes same.1 q.3;
     }
 
@@ -263,7 +263,7 @@ subs_sound f coloured fore width height found (suc left) bytes all rest tells ar
       all_is = r.all_is ∙ rw append_assoc refl;
       count = ap suc r.count;
       each = (p.means.0, r.each);
-      parts = p.parts ∙ (ap (λ t. p.front ++ t) r.parts ∙ (ap (λ t. t ++ (flat_map (bytes_of_sub f coloured) r.more ++ rest)) p.means.1 ∙ sym (append_assoc (bytes_of_sub f coloured b.value) (flat_map (bytes_of_sub f coloured) r.more) rest)));
+      parts = p.parts ∙ (ap (λ t. p.prefix ++ t) r.parts ∙ (ap (λ t. t ++ (flat_map (bytes_of_sub f coloured) r.more ++ rest)) p.means.1 ∙ sym (append_assoc (bytes_of_sub f coloured b.value) (flat_map (bytes_of_sub f coloured) r.more) rest)));
       are = r.are;
     }
 
@@ -278,7 +278,7 @@ subs_complete f coloured fore width height found (s ∷ more) tells wide high ea
     all ∙ ap (λ t. Ok (t, rest)) e
 
 pub listed_sound : (f : Layout) (listed coloured : Bool) (fore : Option ℕ) (width height : ℕ) (bytes : List ℕ) (subs : List Sub) (rest : List ℕ) → Tells f → AreBytes bytes → (listed ≡ true → coloured ≡ false → IsSome fore)
-    → read_listed f listed coloured fore width height bytes ≡ Ok (subs, rest) → Front bytes rest (λ front. AreListed f listed coloured subs front × AllByRecursion (IsSub f coloured fore width height) subs)
+    → read_listed f listed coloured fore width height bytes ≡ Ok (subs, rest) → Prefix bytes rest (λ prefix. AreListed f listed coloured subs prefix × AllByRecursion (IsSub f coloured fore width height) subs)
 listed_sound f true coloured fore width height bytes subs rest tells are needs e =
     let b = both_read (read_byte (λ _. true) bytes) (λ count rest. read_subs f coloured fore width height [] count rest) subs rest e in
     let p = byte_sound (λ _. true) bytes b.value b.middle are b.one in
@@ -286,16 +286,16 @@ listed_sound f true coloured fore width height bytes subs rest tells are needs e
     let same : subs ≡ r.more = r.all_is in
     let count : length subs ≡ b.value = ap length same ∙ r.count in
     record {
-      front = length subs ∷ flat_map (bytes_of_sub f coloured) subs;
+      prefix = length subs ∷ flat_map (bytes_of_sub f coloured) subs;
       means = ((omega (arith, count, p.2), refl), subst (AllByRecursion (IsSub f coloured fore width height)) (sym same) r.each);
       parts = p.0 ∙ (ap (λ t. b.value ∷ t) r.parts ∙ (ap (λ n. n ∷ (flat_map (bytes_of_sub f coloured) r.more ++ rest)) (sym count) ∙ ap (λ (ss : List Sub). length subs ∷ (flat_map (bytes_of_sub f coloured) ss ++ rest)) (sym same)));
       are = r.are;
     }
 listed_sound f false coloured fore width height bytes subs rest tells are needs e =
     let same = ok_same e in
-    record { front = []; means = ((sym same.0, refl), subst (AllByRecursion (IsSub f coloured fore width height)) same.0 tt); parts = same.1; are = subst AreBytes same.1 are }
+    record { prefix = []; means = ((sym same.0, refl), subst (AllByRecursion (IsSub f coloured fore width height)) same.0 tt); parts = same.1; are = subst AreBytes same.1 are }
 
-pub listed_complete : (f : Layout) (listed coloured : Bool) (fore : Option ℕ) (width height : ℕ) (subs : List Sub) (front : List ℕ) → Tells f → width ≤ 16 → height ≤ 16 → AllByRecursion (IsSub f coloured fore width height) subs
-    → AreListed f listed coloured subs front → Takes (read_listed f listed coloured fore width height) front subs
-listed_complete f true coloured fore width height subs front tells wide high each are rest = rw are.1 (subs_complete f coloured fore width height [] subs tells wide high each rest)
-listed_complete f false coloured fore width height subs front tells wide high each are rest = rw (are.0, are.1) refl
+pub listed_complete : (f : Layout) (listed coloured : Bool) (fore : Option ℕ) (width height : ℕ) (subs : List Sub) (prefix : List ℕ) → Tells f → width ≤ 16 → height ≤ 16 → AllByRecursion (IsSub f coloured fore width height) subs
+    → AreListed f listed coloured subs prefix → Takes (read_listed f listed coloured fore width height) prefix subs
+listed_complete f true coloured fore width height subs prefix tells wide high each are rest = rw are.1 (subs_complete f coloured fore width height [] subs tells wide high each rest)
+listed_complete f false coloured fore width height subs prefix tells wide high each are rest = rw (are.0, are.1) refl

@@ -196,11 +196,11 @@ painted_reads f known mask width height bytes back after fore last subs rest mad
     let long : length (take (height * width) points) ≡ height * width = length-take-le (height * width) points room in
     let made_is : made ≡ with_subs width (height * width) background subs = paint ∙ ap (λ (n : ℕ). with_subs width n background subs) long in
     let made_long : length made ≡ height * width = ap length made_is ∙ length-map-range_with_len (λ i. value_over (i % width) (i / width) subs background) 0 (height * width) in
-    let front : take (height * width) (made ++ drop (height * width) points) ≡ made = take_at made (drop (height * width) points) (height * width) made_long in
+    let prefix : take (height * width) (made ++ drop (height * width) points) ≡ made = take_at made (drop (height * width) points) (height * width) made_long in
     on_ok (read_given f (has_bit mask 2) known.background bytes) (λ back after. on_read (read_given f (has_bit mask 4) known.foreground after) (λ fore last. on_read (read_listed f (has_bit mask 8) (has_bit mask 16) fore width height last) (λ subs rest. Ok (painted_tile width height (has_bit mask 16) back fore subs, rest)))) back after one
     ∙ (on_ok (read_given f (has_bit mask 4) known.foreground after) (λ fore last. on_read (read_listed f (has_bit mask 8) (has_bit mask 16) fore width height last) (λ subs rest. Ok (painted_tile width height (has_bit mask 16) back fore subs, rest))) fore last two
     ∙ (on_ok (read_listed f (has_bit mask 8) (has_bit mask 16) fore width height last) (λ subs rest. Ok (painted_tile width height (has_bit mask 16) back fore subs, rest)) subs rest three
-    ∙ rw (front, made_is, ground_is, kept_is) refl))
+    ∙ rw (prefix, made_is, ground_is, kept_is) refl))
 
 pub few_points : (width height : ℕ) → width ≤ 16 → height ≤ 16 → height * width ≤ 256
 few_points width height wide high = let p : height * width ≤ 16 * 16 = mul-le-mul high wide in omega (arith, p)

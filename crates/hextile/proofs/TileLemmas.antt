@@ -230,27 +230,27 @@ raw_passes known mask e = rw e refl
 
 -- ---- a painted tile
 
-back_sound : (f : Layout) (announced : Bool) (known value : Option ℕ) (front : List ℕ) → (announced ≡ false → is_some known ≡ true) → IsForeground f announced known value front → IsGiven f announced known (unwrap_or value 0) front
-back_sound f true known value front needs means = let e : unwrap_or value 0 ≡ means.0 = rw means.2 refl in (rw e means.1, rw e means.3)
-back_sound f false None value front needs means = off (needs refl)
-back_sound f false (Some v) value front needs means = let e : unwrap_or value 0 ≡ v = rw means.0 refl in (rw e refl, means.1)
+back_sound : (f : Layout) (announced : Bool) (known value : Option ℕ) (prefix : List ℕ) → (announced ≡ false → is_some known ≡ true) → IsForeground f announced known value prefix → IsGiven f announced known (unwrap_or value 0) prefix
+back_sound f true known value prefix needs means = let e : unwrap_or value 0 ≡ means.0 = rw means.2 refl in (rw e means.1, rw e means.3)
+back_sound f false None value prefix needs means = off (needs refl)
+back_sound f false (Some v) value prefix needs means = let e : unwrap_or value 0 ≡ v = rw means.0 refl in (rw e refl, means.1)
 
-fore_some : (f : Layout) (announced : Bool) (known value : Option ℕ) (front : List ℕ) → (announced ≡ false → is_some known ≡ true) → IsForeground f announced known value front → IsSome value
-fore_some f true known value front needs means = rw means.2 refl
-fore_some f false known value front needs means = rw means.0 (needs refl)
+fore_some : (f : Layout) (announced : Bool) (known value : Option ℕ) (prefix : List ℕ) → (announced ≡ false → is_some known ≡ true) → IsForeground f announced known value prefix → IsSome value
+fore_some f true known value prefix needs means = rw means.2 refl
+fore_some f false known value prefix needs means = rw means.0 (needs refl)
 
-back_complete : (f : Layout) (announced : Bool) (known : Option ℕ) (back : ℕ) (front : List ℕ) → IsGiven f announced known back front → IsForeground f announced known (Some back) front
-back_complete f true known back front given = (back, given.0, refl, given.1)
-back_complete f false known back front given = (sym given.0, given.1)
+back_complete : (f : Layout) (announced : Bool) (known : Option ℕ) (back : ℕ) (prefix : List ℕ) → IsGiven f announced known back prefix → IsForeground f announced known (Some back) prefix
+back_complete f true known back prefix given = (back, given.0, refl, given.1)
+back_complete f false known back prefix given = (sym given.0, given.1)
 
 -- what a mask without a background needs
-back_known : (f : Layout) (announced : Bool) (known : Option ℕ) (back : ℕ) (front : List ℕ) → IsGiven f announced known back front → announced ≡ false → is_some known ≡ true
-back_known f true known back front given e = off_too e
-back_known f false known back front given e = rw given.0 refl
+back_known : (f : Layout) (announced : Bool) (known : Option ℕ) (back : ℕ) (prefix : List ℕ) → IsGiven f announced known back prefix → announced ≡ false → is_some known ≡ true
+back_known f true known back prefix given e = off_too e
+back_known f false known back prefix given e = rw given.0 refl
 
-fore_known : (f : Layout) (announced : Bool) (known fore : Option ℕ) (front : List ℕ) → IsForeground f announced known fore front → IsSome fore → announced ≡ false → is_some known ≡ true
-fore_known f true known fore front means some e = off_too e
-fore_known f false known fore front means some e = rw means.0 at some
+fore_known : (f : Layout) (announced : Bool) (known fore : Option ℕ) (prefix : List ℕ) → IsForeground f announced known fore prefix → IsSome fore → announced ≡ false → is_some known ≡ true
+fore_known f true known fore prefix means some e = off_too e
+fore_known f false known fore prefix means some e = rw means.0 at some
 
 painted_long : (width height back : ℕ) (subs : List Sub) → length (with_subs width (height * width) back subs) ≡ height * width
 painted_long width height back subs = length-map-range_with_len (λ i. value_over (i % width) (i / width) subs back) 0 (height * width)
@@ -261,15 +261,15 @@ rows_are width height wide = let e : height * width ≡ height * width + 0 = ome
 abbrev tile_with : ℕ → List ℕ → TileValues
 tile_with width values = record { width = width; values = values }
 
-pub record TileFront (f : Layout) (known : Known) (width height : ℕ) (bytes rest : List ℕ) (read : TileRead) : Type 0 where
-  pub front : List ℕ
-  pub means : MeansTile f known (record { width = width; values = read.values }) front read.after
+pub record TilePrefix (f : Layout) (known : Known) (width height : ℕ) (bytes rest : List ℕ) (read : TileRead) : Type 0 where
+  pub prefix : List ℕ
+  pub means : MeansTile f known (record { width = width; values = read.values }) prefix read.after
   pub count : length read.values ≡ height * width
-  pub parts : bytes ≡ front ++ rest
+  pub parts : bytes ≡ prefix ++ rest
   pub are : AreBytes rest
 
 painted_sound : (f : Layout) (known : Known) (mask width height : ℕ) (bytes : List ℕ) (read : TileRead) (rest : List ℕ) → Tells f → AreBytes bytes → 1 ≤ width → is_mask known mask ≡ true → has_bit mask 1 ≡ false
-    → read_painted f known mask width height bytes ≡ Ok (read, rest) → TileFront f known width height (mask ∷ bytes) rest read
+    → read_painted f known mask width height bytes ≡ Ok (read, rest) → TilePrefix f known width height (mask ∷ bytes) rest read
 unfolding read_painted
 painted_sound f known mask width height bytes read rest tells are wide right even e =
     let allowed = mask_allowed known mask right even in
@@ -285,26 +285,26 @@ painted_sound f known mask width height bytes read rest tells are wide right eve
     let h = given_sound f fg known.foreground b1.middle fore b2.middle tells g.are b2.one in
     let b3 = both_read (read_listed f sub col fore width height b2.middle) (λ subs rest. Ok (painted_tile width height col b1.value fore subs, rest)) read rest b2.two in
     let subs = b3.value in
-    let needs : sub ≡ true → col ≡ false → IsSome fore = λ a b. fore_some f fg known.foreground fore h.front (allowed.1.fore a b) h.means in
+    let needs : sub ≡ true → col ≡ false → IsSome fore = λ a b. fore_some f fg known.foreground fore h.prefix (allowed.1.fore a b) h.means in
     let l = listed_sound f sub col fore width height b2.middle subs b3.middle tells h.are needs b3.one in
     let same = ok_same b3.two in
     let made : TileRead = painted_tile width height col b1.value fore subs in
     let long : length made.values ≡ height * width = painted_long width height back subs in
     let rows : length made.values / width ≡ height = ap (λ n. n / width) long ∙ rows_are width height wide in
-    let is : IsPainted f known (tile_with width made.values) (mask ∷ (g.front ++ (h.front ++ l.front))) made.after =
+    let is : IsPainted f known (tile_with width made.values) (mask ∷ (g.prefix ++ (h.prefix ++ l.prefix))) made.after =
     record {
       parts = record { background = bg; foreground = fg; subrects = sub; coloured = col };
       mask = mask;
       is_mask = record { not_both = allowed.1.not_both; only_with = allowed.1.only_with; mask_is = mask_sum mask (ltb-true _ _ allowed.0) even };
       back = back;
-      back_bytes = g.front;
-      is_back = back_sound f bg known.background b1.value g.front allowed.1.back g.means;
+      back_bytes = g.prefix;
+      is_back = back_sound f bg known.background b1.value g.prefix allowed.1.back g.means;
       fore = fore;
-      fore_bytes = h.front;
+      fore_bytes = h.prefix;
       is_fore = h.means;
       needs_fore = needs;
       subs = subs;
-      sub_bytes = l.front;
+      sub_bytes = l.prefix;
       listed = l.means.0;
       each = subst (λ (n : ℕ). AllByRecursion (IsSub f col fore width n) subs) (sym rows) l.means.1;
       spelled = refl;
@@ -312,10 +312,10 @@ painted_sound f known mask width height bytes read rest tells are wide right eve
       after_is = refl;
     } in
     record {
-      front = mask ∷ (g.front ++ (h.front ++ l.front));
-      means = subst (λ (t : TileRead). MeansTile f known (tile_with width t.values) (mask ∷ (g.front ++ (h.front ++ l.front))) t.after) same.0 (inr is);
+      prefix = mask ∷ (g.prefix ++ (h.prefix ++ l.prefix));
+      means = subst (λ (t : TileRead). MeansTile f known (tile_with width t.values) (mask ∷ (g.prefix ++ (h.prefix ++ l.prefix))) t.after) same.0 (inr is);
       count = subst (λ (t : TileRead). length t.values ≡ height * width) same.0 long;
-      parts = ap (λ t. mask ∷ t) (g.parts ∙ (ap (λ t. g.front ++ t) (h.parts ∙ ap (λ t. h.front ++ t) (l.parts ∙ ap (λ t. l.front ++ t) same.1)) ∙ pieces g.front h.front l.front rest));
+      parts = ap (λ t. mask ∷ t) (g.parts ∙ (ap (λ t. g.prefix ++ t) (h.parts ∙ ap (λ t. h.prefix ++ t) (l.parts ∙ ap (λ t. l.prefix ++ t) same.1)) ∙ pieces g.prefix h.prefix l.prefix rest));
       are = subst AreBytes same.1 l.are;
     }
   where
@@ -323,7 +323,7 @@ painted_sound f known mask width height bytes read rest tells are wide right eve
     pieces a b c d = rw (append_assoc, append_assoc) refl
 
 raw_sound : (f : Layout) (known : Known) (mask width height : ℕ) (bytes : List ℕ) (read : TileRead) (rest : List ℕ) → Tells f → AreBytes bytes → mask < 256 → has_bit mask 1 ≡ true
-    → read_raw f width height bytes ≡ Ok (read, rest) → TileFront f known width height (mask ∷ bytes) rest read
+    → read_raw f width height bytes ≡ Ok (read, rest) → TilePrefix f known width height (mask ∷ bytes) rest read
 unfolding read_raw
 raw_sound f known mask width height bytes read rest tells are few odd e =
     let b = both_read (read_pixels f [] (height * width) bytes) (λ values rest. Ok (record { values = values; after = nothing_known }, rest)) read rest e in
@@ -340,7 +340,7 @@ raw_sound f known mask width height bytes read rest tells are few odd e =
       after_is = refl;
     } in
     record {
-      front = mask ∷ flat_map (pixel_bytes f) b.value;
+      prefix = mask ∷ flat_map (pixel_bytes f) b.value;
       means = subst (λ (t : TileRead). MeansTile f known (tile_with width t.values) (mask ∷ flat_map (pixel_bytes f) b.value) t.after) same.0 (inl is);
       count = subst (λ (t : TileRead). length t.values ≡ height * width) same.0 (ap length p.all_is ∙ p.count);
       parts = ap (λ t. mask ∷ t) (p.parts ∙ (ap (λ (vs : List ℕ). flat_map (pixel_bytes f) vs ++ b.middle) (sym p.all_is) ∙ ap (λ t. flat_map (pixel_bytes f) b.value ++ t) same.1));
@@ -356,17 +356,17 @@ raw_sound f known mask width height bytes read rest tells are few odd e =
     odd_bit mask e = odd_by (mask % 2) (omega arith) (subst (λ (n : ℕ). eqb n 1 ≡ true) (omega arith) e)
 
 pub tile_sound : (f : Layout) (known : Known) (width height : ℕ) (bytes : List ℕ) (read : TileRead) (rest : List ℕ) → Tells f → AreBytes bytes → 1 ≤ width
-    → read_tile f known width height bytes ≡ Ok (read, rest) → TileFront f known width height bytes rest read
+    → read_tile f known width height bytes ≡ Ok (read, rest) → TilePrefix f known width height bytes rest read
 unfolding read_tile
 tile_sound f known width height bytes read rest tells are wide e =
     let b = both_read (read_byte (is_mask known) bytes) (λ mask rest. cond (has_bit mask 1) (read_raw f width height rest) (read_painted f known mask width height rest)) read rest e in
     let mask = b.value in
     let p = byte_sound (is_mask known) bytes mask b.middle are b.one in
-    let front : TileFront f known width height (mask ∷ b.middle) rest read = elim (cases_Bool (has_bit mask 1)) [
+    let prefix : TilePrefix f known width height (mask ∷ b.middle) rest read = elim (cases_Bool (has_bit mask 1)) [
       | inl odd ↦ raw_sound f known mask width height b.middle read rest tells p.3 p.2 odd (rw odd at b.two)
       | inr even ↦ painted_sound f known mask width height b.middle read rest tells p.3 wide p.1 even (rw even at b.two)
     ] in
-    record { front = front.front; means = front.means; count = front.count; parts = p.0 ∙ front.parts; are = front.are }
+    record { prefix = prefix.prefix; means = prefix.means; count = prefix.count; parts = p.0 ∙ prefix.parts; are = prefix.are }
 
 -- ---- what a tile means is read
 
@@ -386,10 +386,10 @@ painted_read f known bg fg sub col width height back fore subs one two three res
     ∙ (on_ok _ (λ fore last. on_read (read_listed f sub col fore width height last) (λ subs rest. Ok (painted_tile width height col (Some back) fore subs, rest))) fore (three ++ rest) (given_complete f fg known.foreground fore two tells is_two (three ++ rest))
     ∙ on_ok _ (λ subs rest. Ok (painted_tile width height col (Some back) fore subs, rest)) subs rest (listed_complete f sub col fore width height subs three tells wide high each is_three rest))
 
-painted_complete : (f : Layout) (known : Known) (width height : ℕ) (values front : List ℕ) (after : Known) → Tells f → 1 ≤ width → width ≤ 16 → height ≤ 16 → length values ≡ height * width
-    → IsPainted f known (record { width = width; values = values }) front after → Takes (read_tile f known width height) front (tile_read values after)
+painted_complete : (f : Layout) (known : Known) (width height : ℕ) (values prefix : List ℕ) (after : Known) → Tells f → 1 ≤ width → width ≤ 16 → height ≤ 16 → length values ≡ height * width
+    → IsPainted f known (record { width = width; values = values }) prefix after → Takes (read_tile f known width height) prefix (tile_read values after)
 unfolding read_tile read_painted
-painted_complete f known width height values front after tells some wide high count is rest =
+painted_complete f known width height values prefix after tells some wide high count is rest =
     let bg = is.parts.background in
     let fg = is.parts.foreground in
     let sub = is.parts.subrects in
@@ -406,7 +406,7 @@ painted_complete f known width height values front after tells some wide high co
     let rows : length values / width ≡ height = ap (λ n. n / width) count ∙ rows_are width height some in
     let each = subst (λ (n : ℕ). AllByRecursion (IsSub f col is.fore width n) is.subs) rows is.each in
     let body = is.back_bytes ++ (is.fore_bytes ++ (is.sub_bytes ++ rest)) in
-    let spelled : front ++ rest ≡ is.mask ∷ body = ap (λ t. t ++ rest) is.spelled ∙ ap (λ t. is.mask ∷ t) (pieces is.back_bytes is.fore_bytes is.sub_bytes rest) in
+    let spelled : prefix ++ rest ≡ is.mask ∷ body = ap (λ t. t ++ rest) is.spelled ∙ ap (λ t. is.mask ∷ t) (pieces is.back_bytes is.fore_bytes is.sub_bytes rest) in
     let made = painted_read f known bg fg sub col width height is.back is.fore is.subs is.back_bytes is.fore_bytes is.sub_bytes rest tells wide high (back_complete f bg known.background is.back is.back_bytes is.is_back) is.is_fore is.listed each in
     let shown : with_subs width (height * width) is.back is.subs ≡ values = sym (is.shown ∙ ap (λ (n : ℕ). with_subs width n is.back is.subs) count) in
     let same : painted_tile width height col (Some is.back) is.fore is.subs ≡ tile_read values after = same_read (painted_tile width height col (Some is.back) is.fore is.subs) (tile_read values after) shown (sym is.after_is) in
@@ -417,10 +417,10 @@ painted_complete f known width height values front after tells some wide high co
     pieces : (a b c d : List ℕ) → (a ++ (b ++ c)) ++ d ≡ a ++ (b ++ (c ++ d))
     pieces a b c d = rw (append_assoc, append_assoc) refl
 
-raw_complete : (f : Layout) (known : Known) (width height : ℕ) (values front : List ℕ) (after : Known) → Tells f → length values ≡ height * width
-    → IsRaw f (record { width = width; values = values }) front after → Takes (read_tile f known width height) front (tile_read values after)
+raw_complete : (f : Layout) (known : Known) (width height : ℕ) (values prefix : List ℕ) (after : Known) → Tells f → length values ≡ height * width
+    → IsRaw f (record { width = width; values = values }) prefix after → Takes (read_tile f known width height) prefix (tile_read values after)
 unfolding read_tile read_raw
-raw_complete f known width height values front after tells count is rest =
+raw_complete f known width height values prefix after tells count is rest =
     let odd : has_bit is.mask 1 ≡ true = ap (λ n. eqb n 1) (one_bit is.mask is.bit) in
     let passes = raw_passes known is.mask odd in
     let body = flat_map (pixel_bytes f) values ++ rest in
@@ -433,10 +433,10 @@ raw_complete f known width height values front after tells count is rest =
     one_bit : (mask : ℕ) → mask % 2 ≡ 1 → mask / 1 % 2 ≡ 1
     one_bit mask e = omega arith
 
-pub tile_complete : (f : Layout) (known : Known) (width height : ℕ) (values front : List ℕ) (after : Known) → Tells f → 1 ≤ width → width ≤ 16 → height ≤ 16 → length values ≡ height * width
-    → MeansTile f known (record { width = width; values = values }) front after → Takes (read_tile f known width height) front (record { values = values; after = after })
-tile_complete f known width height values front after tells some wide high count means =
+pub tile_complete : (f : Layout) (known : Known) (width height : ℕ) (values prefix : List ℕ) (after : Known) → Tells f → 1 ≤ width → width ≤ 16 → height ≤ 16 → length values ≡ height * width
+    → MeansTile f known (record { width = width; values = values }) prefix after → Takes (read_tile f known width height) prefix (record { values = values; after = after })
+tile_complete f known width height values prefix after tells some wide high count means =
     elim means [
-      | inl raw ↦ raw_complete f known width height values front after tells count raw
-      | inr with_subs ↦ painted_complete f known width height values front after tells some wide high count with_subs
+      | inl raw ↦ raw_complete f known width height values prefix after tells count raw
+      | inr with_subs ↦ painted_complete f known width height values prefix after tells some wide high count with_subs
     ]

@@ -29,9 +29,9 @@ pub record AreTiles (w h : ℕ) (tiles : List TileValues) : Type 0 where
 
 -- the bytes begin hextile data of some w by h values
 abbrev pub BeginsData : Layout → ℕ → ℕ → List ℕ → Type 0
-BeginsData f w h front = (rest values : List ℕ) × DecodesTo f w h (front ++ rest) values
+BeginsData f w h prefix = (rest values : List ℕ) × DecodesTo f w h (prefix ++ rest) values
 
--- the bytes are no hextile data of w by h values, and this is the length of their longest front
+-- the bytes are no hextile data of w by h values, and this is the length of their longest prefix
 -- that begins such data
 pub record IsBadAt (f : Layout) (w h : ℕ) (bytes : List ℕ) (at : ℕ) : Type 0 where
   pub none : (values : List ℕ) → DecodesTo f w h bytes values → ⊥

@@ -98,8 +98,8 @@ MeansTile f known tile bytes after = IsRaw f tile bytes after ⊎ IsPainted f kn
 abbrev pub MeansTiles : Layout → Known → List TileValues → List ℕ → Type 0
 MeansTiles f known [] bytes = bytes ≡ []
 MeansTiles f known (tile ∷ tiles) bytes =
-    (front rest : List ℕ) × (after : Known) × (bytes ≡ front ++ rest)
-    × MeansTile f known tile front after × MeansTiles f after tiles rest
+    (prefix rest : List ℕ) × (after : Known) × (bytes ≡ prefix ++ rest)
+    × MeansTile f known tile prefix after × MeansTiles f after tiles rest
 
 -- the bytes are hextile data of a rectangle of w by h values
 pub record DecodesTo (f : Layout) (w h : ℕ) (bytes values : List ℕ) : Type 0 where

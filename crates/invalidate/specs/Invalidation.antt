@@ -6,7 +6,7 @@ use Rattle.scene.specs.declared.win.Win.{Win}
 use Rattle.scene.specs.Clips.{corner_in, clip_in}
 use Rattle.scene.specs.Damage.{invalidated}
 
--- whether the window waits to be painted
+-- whether the window is invalid
 abbrev pub is_invalid : Win → Bool
 is_invalid w = is_some w.invalid
 

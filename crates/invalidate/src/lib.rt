@@ -1,4 +1,4 @@
-//! The part of each window that waits to be painted again: one rectangle, which grows.
+//! The invalid part of each window, which is to be painted again: one rectangle, which grows.
 #![tactic(auto)]
 
 mod areas;

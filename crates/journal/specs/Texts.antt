@@ -5,7 +5,7 @@ use Rattle.spelling.specs.Digits.{hex_colour}
 use Rattle.calls.specs.declared.call.Call.{Call}
 use Rattle.calls.specs.declared.call.Call.TheVariants.{Scan}
 use Rattle.calls.specs.declared.reply.Refusal.{Refusal}
-use Rattle.calls.specs.declared.reply.Refusal.TheVariants.{NoWindow, Desktop, BadSize, TooManyWindows, TooDeep, NoClass, NoValue, NoFont, ContextDepth, NoContext, NoBitmap, NoText, NoDevice, TooManyDevices, Memory}
+use Rattle.calls.specs.declared.reply.Refusal.TheVariants.{NoWindow, Desktop, BadSize, TooManyWindows, TooDeep, NoClass, NoValue, NoFont, ContextDepth, NoContext, NoBitmap, NoText, NoDevice, TooManyDevices, Full, Memory}
 use Rattle.calls.specs.declared.reply.Reply.{Reply}
 use Rattle.calls.specs.declared.reply.Reply.TheVariants.{Done, Handle, Jobs, Device, Refused}
 use Rattle.frame.specs.Pictures.{Picture, rows_of}
@@ -64,6 +64,7 @@ refusal_text (NoBitmap bitmap) = codes "refused NoBitmap " ++ decimal bitmap ++ 
 refusal_text (NoText string) = codes "refused NoText " ++ decimal string ++ codes "\n"
 refusal_text (NoDevice device) = codes "refused NoDevice " ++ decimal device ++ codes "\n"
 refusal_text TooManyDevices = codes "refused TooManyDevices\n"
+refusal_text Full = codes "refused Full\n"
 refusal_text Memory = codes "refused Memory\n"
 
 -- the answer where a call is done: a scan's is the shown picture

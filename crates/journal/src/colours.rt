@@ -2,42 +2,14 @@
 
 ghost use Rattle.std.specs.Prelude.{◌≡◌, ◌+◌, ◌*◌, ◌≤◌, ◌<◌, ◌==◌, ◌++◌, length, if◌then◌else◌};
 ghost use Rattle.std.specs.List.{prefix_len};
-ghost use Rattle.spelling.specs.Digits.{hex_digit, hex_byte, hex_colour};
 ghost use Rattle.journal.specs.Texts.{run_text, points_line};
 
-use crate::room::RowRoom;
 use gfx_base::Colour;
 use itoa::Buffer;
+use spelling::LineRoom;
 
-fn hex_digit(value: u8) -> u8
-    requires { value < 16 }
-    ensures { result ≡ hex_digit value }
-{
-    if value < 10 {
-        b'0' + value
-    } else {
-        b'A' + (value - 10)
-    }
-}
-
-fn hex_byte(value: u8) -> [u8; 2]
-    ensures { result ≡ hex_byte value }
-{
-    [hex_digit(value / 16), hex_digit(value % 16)]
-}
-
-/// Pushes a colour's six digits.
-#[tactic(auto, unfolding(spelling::specs::Digits::hex_colour))]
-fn push_colour(room: &mut RowRoom, colour: Colour)
-    requires { length room.old + 6 ≤ 7168 }
-    ensures line { room.new ≡ room.old ++ hex_colour colour }
-    ensures len { length room.new ≡ length room.old + 6 }
-{
-    let [_, red, green, blue] = colour.value().to_be_bytes();
-    room.push_bytes(&hex_byte(red));
-    room.push_bytes(&hex_byte(green));
-    room.push_bytes(&hex_byte(blue));
-}
+/// Room for a row's line: 7 bytes for each of 1,024 points.
+pub type RowRoom = LineRoom<7168>;
 
 /// How many points from the left have that colour.
 fn leading(row: &[Colour], colour: Colour) -> usize
@@ -55,7 +27,7 @@ fn push_run(room: &mut RowRoom, colour: Colour, count: usize)
     ensures line { room.new ≡ room.old ++ run_text (colour, count) }
     ensures len { length room.new + 1 ≤ length room.old + 7 * count }
 {
-    push_colour(room, colour);
+    room.push_colour(colour);
     if count > 1 {
         room.push(b'*');
         room.push_bytes(Buffer::new().format(count).as_bytes());

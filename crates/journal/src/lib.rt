@@ -5,7 +5,6 @@
 
 mod colours;
 pub mod laws;
-mod room;
 mod texts;
 
 pub use texts::{write_fault, write_frame, write_reply, write_summary};

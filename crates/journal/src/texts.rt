@@ -4,13 +4,16 @@ ghost use Rattle.frame.specs.Pictures.{row_at, row_above};
 ghost use Rattle.journal.specs.Texts.{row_line, frame_header, frame_text, refusal_text, done_text};
 ghost use Rattle.journal.specs.Texts.{reply_text, summary_text, fault_text};
 
-use crate::colours::push_points;
-use crate::room::{RowRoom, ShortRoom};
+use crate::colours::{RowRoom, push_points};
 use calls::{Call, Refusal, Reply};
 use frame::Frame;
 use gfx_base::Colour;
 use itoa::Integer;
 use outside::{Sink, SinkFault};
+use spelling::LineRoom;
+
+/// Room for any other line than a row's.
+type ShortRoom = LineRoom<256>;
 
 /// Pushes a row's line, which tells whether the row above is the same.
 fn push_row(room: &mut RowRoom, above: Option<&[Colour]>, row: &[Colour])
@@ -74,8 +77,8 @@ fn write_header<K: Sink>(out: &mut K, frame: &Frame) -> Result<(), SinkFault>
 
 /// Writes a picture: a line with its sides in points, and a line for each row, from the top. A
 /// row's line names the longest runs of points of one colour from the left, as `RRGGBB` or
-/// `RRGGBB*n`, or is `=` where the row above is the same. After a fault of the sink a front of this
-/// was written.
+/// `RRGGBB*n`, or is `=` where the row above is the same. After a fault of the sink a prefix of
+/// this was written.
 pub fn write_frame<K: Sink>(out: &mut K, f: &Frame) -> Result<(), SinkFault>
     ensures { Wrote result (K.log out.old) (K.log out.new) (frame_text f.now.picture) }
 {
@@ -118,6 +121,7 @@ fn write_refusal<K: Sink>(out: &mut K, refusal: &Refusal) -> Result<(), SinkFaul
         Refusal::NoText(string) => write_number(out, b"refused NoText ", *string),
         Refusal::NoDevice(device) => write_number(out, b"refused NoDevice ", *device),
         Refusal::TooManyDevices => out.write(b"refused TooManyDevices\n"),
+        Refusal::Full => out.write(b"refused Full\n"),
         Refusal::Memory => out.write(b"refused Memory\n"),
     }
 }
@@ -133,7 +137,7 @@ fn write_done<K: Sink>(out: &mut K, call: &Call, shown: &Frame) -> Result<(), Si
 
 /// Writes the answer to a call: a line, or the shown picture where a scan was done. `_taken` are
 /// the bytes that a viewer is to get, which no call of today gives. After a fault of the sink a
-/// front of this was written.
+/// prefix of this was written.
 pub fn write_reply<K: Sink>(
     out: &mut K,
     call: &Call,

@@ -62,7 +62,7 @@ fn why_closed(reader: &mut Reader, byte: u8) -> Option<Why> {
 }
 
 /// A reader of a viewer that has sent the first bytes of its version.
-fn after_front(count: usize) -> Reader {
+fn after_prefix(count: usize) -> Reader {
     let mut reader = Reader::new();
     for byte in VERSION.iter().take(count) {
         let _step = reader.feed(*byte);
@@ -73,7 +73,7 @@ fn after_front(count: usize) -> Reader {
 /// Whether a wrong byte at a place of a version closes, and the right one after it is answered
 /// alike.
 fn closes_at(place: usize, wrong: u8, right: u8) -> bool {
-    let mut reader = after_front(place);
+    let mut reader = after_prefix(place);
     let at_wrong = why_closed(&mut reader, wrong);
     let at_right = why_closed(&mut reader, right);
     at_wrong == Some(Why::Version(wrong)) && at_right == at_wrong

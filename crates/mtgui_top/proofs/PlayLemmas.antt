@@ -1,36 +1,72 @@
 -- The calls of lines, one after the other.
-use Rattle.std.proofs.Common.{◌≡◌, ℕ, ◌+◌, ◌<◌, ◌≤◌, Bool, true, false, cond, List, [], ◌∷◌, ◌++◌, length, get_or, drop, refl, sym, ap, ◌∙◌, append_assoc, Err, subst, arith}
+use Rattle.std.proofs.Common.{◌≡◌, ℕ, ◌+◌, ◌<◌, ◌≤◌, Bool, true, false, cond, List, [], ◌∷◌, ◌++◌, length, get_or, drop, refl, sym, ap, ◌∙◌, append_assoc, add-zero, Err, subst, arith}
 use Rattle.std.proofs.Math.Nat.{zero-add}
-use Rattle.std.proofs.lemmas.List.{at_drop_more, at_drop_all, append-nil}
+use Rattle.std.proofs.lemmas.List.{at_drop_more, at_drop_all, append-nil, length-append}
+use Rattle.std.proofs.lemmas.Bool.{lt-leb}
 use Rattle.std.proofs.lemmas.List.Folds.{list_any_at}
 use Rattle.outside.specs.Logs.{SinkLog, Whole}
 use Rattle.outside.proofs.CallerLemmas.{Partly, Partly-broken, Whole-then}
+use Rattle.calls.specs.declared.call.Call.{Call}
+use Rattle.calls.specs.declared.entry.Entry.TheVariants as entry
+use Rattle.calls.specs.declared.reply.Reply.{Reply}
 use Rattle.calls.specs.declared.line.Line.{Line}
 use Rattle.calls.specs.declared.line.Act.TheVariants as act
 use Rattle.calls.specs.declared.line.Line.TheVariants.{Task}
-use Rattle.calls.specs.Lines.{is_call, call_count, entries_of}
+use Rattle.calls.specs.Lines.{is_call, call_count, entries_of_line, entries_of}
 use Rattle.calls.specs.declared.config.Config.{Config}
 use Rattle.frame.specs.Pictures.{Picture}
 use Rattle.paint_ops.specs.Kinds.{Assets}
 use Rattle.script.specs.Scripts.{Script}
-use Rattle.journal.specs.Texts.{frame_text, summary_text}
+use Rattle.journal.specs.Texts.{frame_text, reply_text, summary_text}
 use Rattle.gui_core.specs.Setups.{Setup, setup_for, painter}
-use Rattle.gui_core.specs.States.{State, opening, state_after}
-use Rattle.gui_core.proofs.CallerLemmas.{painting_moves_nothing}
+use Rattle.gui_core.specs.States.{State, opening, step, state_after, is_want_of_memory}
+use Rattle.gui_core.proofs.CallerLemmas.{painting_moves_nothing, state-append, refusals-append, answers-state, entered}
 use Rattle.gui_core.specs.Promises.{window_calls}
-use Rattle.gui_core.specs.Machines.{Machine, starting}
+use Rattle.gui_core.specs.Histories.{Chronicle, starting, state_of, refusals, refused_of, is_full, says_full, is_entered, Answers}
 use Rattle.mtgui_top.specs.declared.play.Stop.{Stop}
 use Rattle.mtgui_top.specs.declared.play.Stop.TheVariants as stop
 use Rattle.mtgui_top.specs.Outcome.{LineEnds, LinesEnd}
 use Rattle.mtgui_top.specs.Changes.{may_change, asks_for_device}
-use Rattle.mtgui_top.specs.Machines.{calls_at, LineDone, HasRoom}
+use Rattle.mtgui_top.specs.Histories.{calls_at, LineDone, HasRoom}
 use Rattle.mtgui_top.specs.Playing.{state_past, answer_text, refused_at, replies, refused_count, after_lines, summary_of, paint_text}
 
 -- ---- one line
 
+past_is : (setup : Setup) (s : State) (line : Line) → state_after setup s (entries_of_line line) ≡ state_past setup s line
+past_is setup s (Task task (act.Call call)) = refl
+past_is setup s (Task task act.Lock) = refl
+past_is setup s (Task task act.Unlock) = refl
+
+refused_is : (setup : Setup) (s : State) (line : Line) → refusals setup s (entries_of_line line) ≡ refused_at setup s line
+refused_is setup s (Task task (act.Call call)) = add-zero (refused_at setup s (Task task (act.Call call)))
+refused_is setup s (Task task act.Lock) = refl
+refused_is setup s (Task task act.Unlock) = refl
+
+count_is : (line : Line) → length (entries_of_line line) ≡ calls_at line
+count_is (Task task (act.Call call)) = refl
+count_is (Task task act.Lock) = refl
+count_is (Task task act.Unlock) = refl
+
+done-state : (old new : Chronicle) (line : Line) → LineDone old line new → state_of new ≡ state_past old.setup (state_of old) line
+done-state old new line done =
+    ap (λ (setup : Setup). state_after setup (opening setup) new.history) done.setup
+    ∙ ap (state_after old.setup (opening old.setup)) done.history
+    ∙ state-append old.setup (opening old.setup) old.history (entries_of_line line)
+    ∙ past_is old.setup (state_of old) line
+
+done-refused : (old new : Chronicle) (line : Line) → LineDone old line new → refused_of new ≡ refused_of old + refused_at old.setup (state_of old) line
+done-refused old new line done =
+    ap (λ (setup : Setup). refusals setup (opening setup) new.history) done.setup
+    ∙ ap (refusals old.setup (opening old.setup)) done.history
+    ∙ refusals-append old.setup (opening old.setup) old.history (entries_of_line line)
+    ∙ ap (λ (n : ℕ). refused_of old + n) (refused_is old.setup (state_of old) line)
+
+done-made : (old new : Chronicle) (line : Line) → LineDone old line new → length new.history ≡ length old.history + calls_at line
+done-made old new line done = ap length done.history ∙ length-append old.history (entries_of_line line) ∙ ap (λ (n : ℕ). length old.history + n) (count_is line)
+
 -- the state after a line, with the setup that the core has from the start
-pub stepped : (setup : Setup) (old new : Machine) (line : Line) → old.setup ≡ setup → LineDone old line new → new.state ≡ state_past setup old.state line
-stepped setup old new line same done = done.state ∙ ap (λ (k : Setup). state_past k old.state line) same
+pub stepped : (setup : Setup) (old new : Chronicle) (line : Line) → old.setup ≡ setup → LineDone old line new → state_of new ≡ state_past setup (state_of old) line
+stepped setup old new line same done = done-state old new line done ∙ ap (λ (k : Setup). state_past k (state_of old) line) same
 
 -- the first line, and then the others
 pub after_first : (setup : Setup) (s : State) (line : Line) (lines : List Line) → after_lines setup s (line ∷ lines) ≡ after_lines setup (state_past setup s line) lines
@@ -44,6 +80,22 @@ count_first line lines = by_test (is_call line) refl where
   by_test true is = rw is (omega arith)
   by_test false is = rw is (sym (zero-add (call_count lines)))
 
+-- a call for which there is room, and memory, came into the history
+pub call_entered : (old new : Chronicle) (task : ℕ) (call : Call) (reply : Reply) → HasRoom old (Task task (act.Call call)) → says_full reply ≡ is_full old → is_want_of_memory reply ≡ false → (is_entered reply ≡ true → Answers old task call new reply)
+    → Answers old task call new reply
+call_entered old new task call reply room full memory answers =
+    answers (entered reply (full ∙ lt-leb old.setup.config.calls (length old.history) (omega (arith, room))) memory)
+
+pub call_done : (old new : Chronicle) (task : ℕ) (call : Call) (reply : Reply) → Answers old task call new reply → LineDone old (Task task (act.Call call)) new
+call_done old new task call reply a = record { setup = a.setup; history = a.history }
+
+-- what is written for it
+pub call_answered : (old new : Chronicle) (task : ℕ) (call : Call) (reply : Reply) (shown : Picture) → Answers old task call new reply → shown ≡ (state_of new).shown
+    → reply_text call reply shown ≡ answer_text old.setup (state_of old) (Task task (act.Call call))
+call_answered old new task call reply shown a is =
+    let now = step old.setup (state_of old) (entry.Call task call) in
+    ap (λ (p : Picture). reply_text call reply p) (is ∙ ap (λ (s : State). s.shown) (answers-state old new task call reply a)) ∙ ap (λ (r : Reply). reply_text call r now.state.shown) a.reply_is
+
 -- ---- all lines
 
 replies-more : (setup : Setup) (s new : State) (lines : List Line) (i : ℕ) (d : Line) (last : List ℕ) → i < length lines → new ≡ state_past setup s (get_or lines i d)
@@ -55,13 +107,13 @@ replies-more setup s new lines i d last lt e =
     ∙ append_assoc (answer_text setup s line) (replies setup new (drop (i + 1) lines)) last
 
 -- the answer to the next line, and those that are left
-pub replies-step : (setup : Setup) (old new : Machine) (lines : List Line) (i : ℕ) (line : Line) (last : List ℕ) → line ≡ get_or lines i line → i < length lines → old.setup ≡ setup → LineDone old line new
-    → replies setup old.state (drop i lines) ++ last ≡ answer_text old.setup old.state line ++ (replies setup new.state (drop (i + 1) lines) ++ last)
+pub replies-step : (setup : Setup) (old new : Chronicle) (lines : List Line) (i : ℕ) (line : Line) (last : List ℕ) → line ≡ get_or lines i line → i < length lines → old.setup ≡ setup → LineDone old line new
+    → replies setup (state_of old) (drop i lines) ++ last ≡ answer_text old.setup (state_of old) line ++ (replies setup (state_of new) (drop (i + 1) lines) ++ last)
 replies-step setup old new lines i line last at lt same done =
-    let rest = replies setup new.state (drop (i + 1) lines) ++ last in
-    replies-more setup old.state new.state lines i line last lt (stepped setup old new line same done ∙ ap (state_past setup old.state) at)
-    ∙ ap (λ (l : Line). answer_text setup old.state l ++ rest) (sym at)
-    ∙ ap (λ (k : Setup). answer_text k old.state line ++ rest) (sym same)
+    let rest = replies setup (state_of new) (drop (i + 1) lines) ++ last in
+    replies-more setup (state_of old) (state_of new) lines i line last lt (stepped setup old new line same done ∙ ap (state_past setup (state_of old)) at)
+    ∙ ap (λ (l : Line). answer_text setup (state_of old) l ++ rest) (sym at)
+    ∙ ap (λ (k : Setup). answer_text k (state_of old) line ++ rest) (sym same)
 
 refused_count-more : (setup : Setup) (s new : State) (lines : List Line) (i : ℕ) (d : Line) → i < length lines → new ≡ state_past setup s (get_or lines i d)
     → refused_count setup s (drop i lines) ≡ refused_at setup s (get_or lines i d) + refused_count setup new (drop (i + 1) lines)
@@ -79,17 +131,17 @@ pub calls-more : (lines : List Line) (i : ℕ) (d : Line) → i < length lines �
 calls-more lines i d lt = at_drop_more call_count lines i d lt ∙ count_first (get_or lines i d) (drop (i + 1) lines)
 
 -- there is room for the next line, and for those that are left after it
-pub room-more : (m : Machine) (lines : List Line) (i : ℕ) (d : Line) (most : ℕ) → i < length lines → m.made + call_count (drop i lines) ≤ call_count lines → call_count lines ≤ most → m.setup.config.calls ≡ most → HasRoom m (get_or lines i d)
+pub room-more : (m : Chronicle) (lines : List Line) (i : ℕ) (d : Line) (most : ℕ) → i < length lines → length m.history + call_count (drop i lines) ≤ call_count lines → call_count lines ≤ most → m.setup.config.calls ≡ most → HasRoom m (get_or lines i d)
 room-more m lines i d most lt few room same = let left = calls-more lines i d lt in omega (arith, left, few, room, same)
 
-pub made-more : (old new : Machine) (lines : List Line) (i : ℕ) (d : Line) (total : ℕ) → i < length lines → LineDone old (get_or lines i d) new → old.made + call_count (drop i lines) ≤ total → new.made + call_count (drop (i + 1) lines) ≤ total
-made-more old new lines i d total lt done few = let left = calls-more lines i d lt in let made = done.made in omega (arith, left, made, few)
+pub made-more : (old new : Chronicle) (lines : List Line) (i : ℕ) (d : Line) (total : ℕ) → i < length lines → LineDone old (get_or lines i d) new → length old.history + call_count (drop i lines) ≤ total → length new.history + call_count (drop (i + 1) lines) ≤ total
+made-more old new lines i d total lt done few = let left = calls-more lines i d lt in let made = done-made old new (get_or lines i d) done in omega (arith, left, made, few)
 
-pub skipped-more : (m : Machine) (lines : List Line) (i total : ℕ) → i < length lines → m.made + call_count (drop i lines) ≤ total → m.made + call_count (drop (i + 1) lines) ≤ total
+pub skipped-more : (m : Chronicle) (lines : List Line) (i total : ℕ) → i < length lines → length m.history + call_count (drop i lines) ≤ total → length m.history + call_count (drop (i + 1) lines) ≤ total
 skipped-more m lines i total lt few = let left = calls-more lines i (Task 0 act.Lock) lt in omega (arith, left, few)
 
-pub all-made : (old new : Machine) (lines : List Line) (i : ℕ) (d : Line) (total : ℕ) → i < length lines → LineDone old (get_or lines i d) new → old.made + call_count (drop i lines) ≡ total → new.made + call_count (drop (i + 1) lines) ≡ total
-all-made old new lines i d total lt done all = let left = calls-more lines i d lt in let made = done.made in omega (arith, left, made, all)
+pub all-made : (old new : Chronicle) (lines : List Line) (i : ℕ) (d : Line) (total : ℕ) → i < length lines → LineDone old (get_or lines i d) new → length old.history + call_count (drop i lines) ≡ total → length new.history + call_count (drop (i + 1) lines) ≡ total
+all-made old new lines i d total lt done all = let left = calls-more lines i d lt in let made = done-made old new (get_or lines i d) done in omega (arith, left, made, all)
 
 -- a script asks for no more calls than it has lines
 pub few_calls : (lines : List Line) → length lines ≤ 400000 → call_count lines ≤ 400000
@@ -105,12 +157,12 @@ pub replies-all : (setup : Setup) (s : State) (lines : List Line) (i : ℕ) (las
 replies-all setup s lines i last le = ap (λ (text : List ℕ). text ++ last) (at_drop_all (replies setup s) lines i le)
 
 -- the number of refused calls, one line further
-pub counted-more : (setup : Setup) (old new : Machine) (lines : List Line) (i : ℕ) (d : Line) (total : ℕ) → i < length lines → old.setup ≡ setup → LineDone old (get_or lines i d) new
-    → old.refused + refused_count setup old.state (drop i lines) ≡ total → new.refused + refused_count setup new.state (drop (i + 1) lines) ≡ total
+pub counted-more : (setup : Setup) (old new : Chronicle) (lines : List Line) (i : ℕ) (d : Line) (total : ℕ) → i < length lines → old.setup ≡ setup → LineDone old (get_or lines i d) new
+    → refused_of old + refused_count setup (state_of old) (drop i lines) ≡ total → refused_of new + refused_count setup (state_of new) (drop (i + 1) lines) ≡ total
 counted-more setup old new lines i d total lt same done so_far =
     let line = get_or lines i d in
-    let more = refused_count-more setup old.state new.state lines i d lt (stepped setup old new line same done) in
-    let one : new.refused ≡ old.refused + refused_at setup old.state line = done.refused ∙ ap (λ (k : Setup). old.refused + refused_at k old.state line) same in
+    let more = refused_count-more setup (state_of old) (state_of new) lines i d lt (stepped setup old new line same done) in
+    let one : refused_of new ≡ refused_of old + refused_at setup (state_of old) line = done-refused old new line done ∙ ap (λ (k : Setup). refused_of old + refused_at k (state_of old) line) same in
     omega (arith, so_far, more, one)
 
 -- the summary after the last line
@@ -126,18 +178,18 @@ summary-last setup s now lines i refused windows le counted last is =
 -- ---- lines that aren't done to their end
 
 -- where the sink failed at a line, or there was no memory for a device
-pub line_left : (e : Stop) (setup : Setup) (s : State) (lines : List Line) (i : ℕ) (line : Line) (m n : Machine) (a b c : SinkLog) → line ≡ get_or lines i line → i < length lines → m.setup ≡ setup
-    → Partly a b (replies setup m.state (drop i lines) ++ summary_of setup s lines) (replies setup s lines ++ summary_of setup s lines) → LineEnds (Err e) m line n b c → LinesEnd (Err e) setup s lines a c
+pub line_left : (e : Stop) (setup : Setup) (s : State) (lines : List Line) (i : ℕ) (line : Line) (m n : Chronicle) (a b c : SinkLog) → line ≡ get_or lines i line → i < length lines → m.setup ≡ setup
+    → Partly a b (replies setup (state_of m) (drop i lines) ++ summary_of setup s lines) (replies setup s lines ++ summary_of setup s lines) → LineEnds (Err e) m line n b c → LinesEnd (Err e) setup s lines a c
 line_left stop.Store setup s lines i line m n a b c at lt same so_far ended = absurd ended
 line_left stop.Sink setup s lines i line m n a b c at lt same so_far ended =
     Partly-broken a b c _ _ _ _ so_far (replies-step setup m n lines i line (summary_of setup s lines) at lt same ended.0) ended.1
 line_left stop.Memory setup s lines i line m n a b c at lt same so_far ended = (
   list_any_at asks_for_device lines i line lt (ap asks_for_device (sym at) ∙ ended.0),
   record {
-    front = so_far.front;
-    rest = replies setup m.state (drop i lines) ++ summary_of setup s lines;
+    prefix = so_far.prefix;
+    rest = replies setup (state_of m) (drop i lines) ++ summary_of setup s lines;
     parts = sym so_far.joined;
-    written = subst (Whole a c) (append-nil so_far.front) (Whole-then a b c so_far.front [] so_far.written ended.1);
+    written = subst (Whole a c) (append-nil so_far.prefix) (Whole-then a b c so_far.prefix [] so_far.written ended.1);
   },
 )
 
@@ -168,14 +220,14 @@ other_call-more setup s lines i d lt test =
     at_drop_more (after_window_calls setup s) lines i d lt ∙ left_out setup s (get_or lines i d) (drop (i + 1) lines) test
 
 -- the painter's picture that is written for a script
-pub painted_text : (script : Script) (assets : Assets) (config : Config) (lines lent : List Line) (m n : Machine) (p : Picture) → assets ≡ script.assets → config ≡ script.config → lines ≡ script.lines → lent ≡ lines → m ≡ starting assets config
-    → n.setup ≡ m.setup → n.state ≡ after_window_calls m.setup m.state lent → p ≡ painter n.setup n.state.windows → frame_text p ≡ paint_text script
+pub painted_text : (script : Script) (assets : Assets) (config : Config) (lines lent : List Line) (m n : Chronicle) (p : Picture) → assets ≡ script.assets → config ≡ script.config → lines ≡ script.lines → lent ≡ lines → m ≡ starting assets config
+    → n.setup ≡ m.setup → state_of n ≡ after_window_calls m.setup (state_of m) lent → p ≡ painter n.setup (state_of n).windows → frame_text p ≡ paint_text script
 painted_text script assets config lines lent m n p a k l same opened setup state is =
     let s = setup_for assets config in
     ap frame_text
-    (is ∙ ap (λ (q : Setup). painter q n.state.windows) setup
+    (is ∙ ap (λ (q : Setup). painter q (state_of n).windows) setup
     ∙ ap (λ (t : State). painter m.setup t.windows) state
-    ∙ ap (λ (q : Machine). painter q.setup (after_window_calls q.setup q.state lent).windows) opened
+    ∙ ap (λ (q : Chronicle). painter q.setup (after_window_calls q.setup (state_of q) lent).windows) opened
     ∙ painting_moves_nothing s (entries_of lent)
     ∙ ap (λ (ls : List Line). painter s (after_lines s (opening s) ls).windows) (same ∙ l)
     ∙ ap (λ (b : Assets). painter (setup_for b config) (after_lines (setup_for b config) (opening (setup_for b config)) script.lines).windows) a

@@ -14,34 +14,34 @@ use Rattle.mtgui_top.specs.Playing.{setup_of, state_past, answer_text, replies, 
 use Rattle.mtgui_top.specs.Promises.{state_at, ScansShowPainter}
 use Rattle.mtgui_top.proofs.PlayLemmas.{after_first}
 
-replies-append : (setup : Setup) (s : State) (front rest : List Line) → replies setup s (front ++ rest) ≡ replies setup s front ++ replies setup (after_lines setup s front) rest
+replies-append : (setup : Setup) (s : State) (prefix rest : List Line) → replies setup s (prefix ++ rest) ≡ replies setup s prefix ++ replies setup (after_lines setup s prefix) rest
 replies-append setup s [] rest = refl
-replies-append setup s (line ∷ front) rest =
+replies-append setup s (line ∷ prefix) rest =
     let now : State = state_past setup s line in
     let text : List ℕ = answer_text setup s line in
-    ap (λ (more : List ℕ). text ++ more) (replies-append setup now front rest ∙ ap (λ (t : State). replies setup now front ++ replies setup t rest) (sym (after_first setup s line front)))
-    ∙ sym (append_assoc text (replies setup now front) (replies setup (after_lines setup s (line ∷ front)) rest))
+    ap (λ (more : List ℕ). text ++ more) (replies-append setup now prefix rest ∙ ap (λ (t : State). replies setup now prefix ++ replies setup t rest) (sym (after_first setup s line prefix)))
+    ∙ sym (append_assoc text (replies setup now prefix) (replies setup (after_lines setup s (line ∷ prefix)) rest))
 
 -- a scan is answered by the shown picture, and changes nothing
 scan_replies : (setup : Setup) (s : State) (task : ℕ) (rest : List Line) → replies setup s (Task task (act.Call Scan) ∷ rest) ≡ frame_text s.shown ++ replies setup s rest
 unfolding step
 scan_replies setup s task rest = refl
 
-text_at : (script : Script) (front rest : List Line) (task : ℕ) → script.lines ≡ front ++ Task task (act.Call Scan) ∷ rest
-    → play_text script ≡ replies (setup_of script) (opening (setup_of script)) front ++ (frame_text (state_at script front).shown ++ (replies (setup_of script) (state_at script front) rest ++ summary_of (setup_of script) (opening (setup_of script)) script.lines))
-text_at script front rest task e =
+text_at : (script : Script) (prefix rest : List Line) (task : ℕ) → script.lines ≡ prefix ++ Task task (act.Call Scan) ∷ rest
+    → play_text script ≡ replies (setup_of script) (opening (setup_of script)) prefix ++ (frame_text (state_at script prefix).shown ++ (replies (setup_of script) (state_at script prefix) rest ++ summary_of (setup_of script) (opening (setup_of script)) script.lines))
+text_at script prefix rest task e =
     let setup = setup_of script in
-    let s = state_at script front in
-    let head = replies setup (opening setup) front in
+    let s = state_at script prefix in
+    let head = replies setup (opening setup) prefix in
     let last = summary_of setup (opening setup) script.lines in
     ap (λ (lines : List Line). replies setup (opening setup) lines ++ last) e
-    ∙ ap (λ (text : List ℕ). text ++ last) (replies-append setup (opening setup) front (Task task (act.Call Scan) ∷ rest) ∙ ap (λ (text : List ℕ). head ++ text) (scan_replies setup s task rest))
+    ∙ ap (λ (text : List ℕ). text ++ last) (replies-append setup (opening setup) prefix (Task task (act.Call Scan) ∷ rest) ∙ ap (λ (text : List ℕ). head ++ text) (scan_replies setup s task rest))
     ∙ append_assoc head (frame_text s.shown ++ replies setup s rest) last
     ∙ ap (λ (text : List ℕ). head ++ text) (append_assoc (frame_text s.shown) (replies setup s rest) last)
 
 pub scans_show_painter : (script : Script) → ScansShowPainter script
 scans_show_painter script = record {
   text = text_at script;
-  picture = λ front none. quiet_is_painter (setup_of script) (entries_of front) none;
-  undrawn = λ front undrawn none. undrawn_is_painter (setup_of script) (entries_of front) undrawn none;
+  picture = λ prefix none. quiet_is_painter (setup_of script) (entries_of prefix) none;
+  undrawn = λ prefix undrawn none. undrawn_is_painter (setup_of script) (entries_of prefix) undrawn none;
 }

@@ -1,5 +1,5 @@
 pub mod Changes
-pub mod Machines
+pub mod Histories
 pub mod Playing
 pub mod Words
 pub mod Promises

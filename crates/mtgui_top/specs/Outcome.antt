@@ -12,7 +12,7 @@ use Rattle.script.specs.Faults.{IsFault}
 use Rattle.calls.specs.declared.line.Line.{Line}
 use Rattle.gui_core.specs.Setups.{Setup}
 use Rattle.gui_core.specs.States.{State}
-use Rattle.gui_core.specs.Machines.{Machine}
+use Rattle.gui_core.specs.Histories.{Chronicle, state_of}
 use Rattle.mtgui_top.specs.declared.command.Verb.{Verb}
 use Rattle.mtgui_top.specs.declared.command.Verb.TheVariants.{Play, Paint}
 use Rattle.mtgui_top.specs.declared.play.Stop.{Stop}
@@ -20,7 +20,7 @@ use Rattle.mtgui_top.specs.declared.play.Stop.TheVariants as stop
 use Rattle.mtgui_top.specs.declared.play.Finding.{Finding}
 use Rattle.mtgui_top.specs.declared.play.Finding.TheVariants as finding
 use Rattle.mtgui_top.specs.Changes.{asks_for_device}
-use Rattle.mtgui_top.specs.Machines.{LineDone}
+use Rattle.mtgui_top.specs.Histories.{LineDone}
 use Rattle.mtgui_top.specs.Playing.{answer_text, replies, summary_of, play_text, text_for, fault_line}
 use Rattle.mtgui_top.specs.Words.{IsCommand}
 
@@ -34,15 +34,15 @@ IsTextOf verb file text =
     ((script : Script) × IsScript file script × (text ≡ text_for verb script))
     ⊎ ((fault : ScriptFault) × IsFault file fault × (text ≡ fault_line fault))
 
--- a front of the text was written, and no write failed
+-- a prefix of the text was written, and no write failed
 pub record Left (old new : SinkLog) (text : List ℕ) : Type 0 where
-  pub front : List ℕ
+  pub prefix : List ℕ
   pub rest : List ℕ
-  pub parts : text ≡ front ++ rest
-  pub written : Whole old new front
+  pub parts : text ≡ prefix ++ rest
+  pub written : Whole old new prefix
 
 -- Where memory ran out for a script, nothing was written; or it was played, it makes devices, and a
--- front of its text was written.
+-- prefix of its text was written.
 abbrev pub LeavesScript : Verb → Script → SinkLog → SinkLog → Type 0
 LeavesScript Play script old new =
     Whole old new []
@@ -98,17 +98,19 @@ WritesScript verb (Err stop.Memory) old new script = LeavesScript verb script ol
 
 -- what became of a line: it was done and answered; the sink failed at the answer; or there was no
 -- memory for a device, and nothing was written
-abbrev pub LineEnds : Result (Unit {0}) Stop → Machine → Line → Machine → SinkLog → SinkLog → Type 0
-LineEnds (Ok done) m line n old new =
-    LineDone m line n × Whole old new (answer_text m.setup m.state line)
-LineEnds (Err stop.Store) m line n old new = ⊥
-LineEnds (Err stop.Sink) m line n old new =
-    LineDone m line n × Broken old new (answer_text m.setup m.state line)
-LineEnds (Err stop.Memory) m line n old new =
+abbrev pub LineEnds :
+    Result (Unit {0}) Stop → Chronicle → Line → Chronicle → SinkLog → SinkLog → Type 0
+LineEnds (Ok done) c line d old new =
+    LineDone c line d × Whole old new (answer_text c.setup (state_of c) line)
+LineEnds (Err stop.Store) c line d old new = ⊥
+LineEnds (Err stop.Sink) c line d old new =
+    LineDone c line d × Broken old new (answer_text c.setup (state_of c) line)
+LineEnds (Err stop.Memory) c line d old new =
     (asks_for_device line ≡ true) × Whole old new []
 
 -- what became of lines, and the summary after them
-abbrev pub LinesEnd : Result (Unit {0}) Stop → Setup → State → List Line → SinkLog → SinkLog → Type 0
+abbrev pub LinesEnd :
+    Result (Unit {0}) Stop → Setup → State → List Line → SinkLog → SinkLog → Type 0
 LinesEnd (Ok done) setup s lines old new =
     Whole old new (replies setup s lines ++ summary_of setup s lines)
 LinesEnd (Err stop.Store) setup s lines old new = ⊥

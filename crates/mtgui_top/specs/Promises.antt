@@ -16,26 +16,26 @@ use Rattle.mtgui_top.specs.Playing.{setup_of, replies, summary_of, after_lines, 
 
 -- the state after the first lines of a script
 abbrev pub state_at : Script → List Line → State
-state_at script front = after_lines (setup_of script) (opening (setup_of script)) front
+state_at script prefix = after_lines (setup_of script) (opening (setup_of script)) prefix
 
 -- the points that tasks drew on directly in these lines, and that no job has painted since
 abbrev pub stain_at : Script → List Line → Stain
-stain_at script front =
-    stain_after (setup_of script) (opening (setup_of script)) (entries_of front) no_stain
+stain_at script prefix =
+    stain_after (setup_of script) (opening (setup_of script)) (entries_of prefix) no_stain
 
 -- At a scan the play text has the picture that is shown there, between the answers to the lines
--- before and what follows. Wherever no window waits to be painted, the picture that is shown is the
+-- before and what follows. Wherever no window is invalid, the picture that is shown is the
 -- painter's of the windows at each point that isn't stained, and all of it where no task drew.
 pub record ScansShowPainter (script : Script) : Type 0 where
-  pub text : (front rest : List Line) (task : ℕ)
-      → script.lines ≡ front ++ Task task (act.Call Scan) ∷ rest
+  pub text : (prefix rest : List Line) (task : ℕ)
+      → script.lines ≡ prefix ++ Task task (act.Call Scan) ∷ rest
       → play_text script
-      ≡ replies (setup_of script) (opening (setup_of script)) front
-      ++ (frame_text (state_at script front).shown
-      ++ (replies (setup_of script) (state_at script front) rest
+      ≡ replies (setup_of script) (opening (setup_of script)) prefix
+      ++ (frame_text (state_at script prefix).shown
+      ++ (replies (setup_of script) (state_at script prefix) rest
       ++ summary_of (setup_of script) (opening (setup_of script)) script.lines))
-  pub picture : (front : List Line) → NoneInvalid (state_at script front).windows
-      → IsPainterOutside (setup_of script) (state_at script front) (stain_at script front)
-  pub undrawn : (front : List Line) → list_any draws (entries_of front) ≡ false
-      → NoneInvalid (state_at script front).windows
-      → (state_at script front).shown ≡ painter (setup_of script) (state_at script front).windows
+  pub picture : (prefix : List Line) → NoneInvalid (state_at script prefix).windows
+      → IsPainterOutside (setup_of script) (state_at script prefix) (stain_at script prefix)
+  pub undrawn : (prefix : List Line) → list_any draws (entries_of prefix) ≡ false
+      → NoneInvalid (state_at script prefix).windows
+      → (state_at script prefix).shown ≡ painter (setup_of script) (state_at script prefix).windows

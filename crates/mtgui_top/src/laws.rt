@@ -6,8 +6,8 @@ ghost use Rattle.mtgui_top.specs.Playing.{play_text};
 ghost use Rattle.mtgui_top.specs.Promises.{ScansShowPainter};
 ghost use Rattle.mtgui_top.specs.Examples.{first_script, refused_script};
 
-/// Does nothing. Every script's play text has the shown picture at each scan, and where no window is
-/// invalid that is the painter's at each point that no task drew since it was painted.
+/// Does nothing. Every script's play text has the shown picture at each scan, and where no window
+/// is invalid that is the painter's at each point that no task drew since it was painted.
 pub fn scans_show_painter()
     ensures { (script : Script) → ScansShowPainter script }
 {}

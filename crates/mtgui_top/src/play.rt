@@ -1,16 +1,20 @@
 //! `play FILE` and `paint FILE`: a file is read, and what its script's calls are answered is
 //! written, or the painter's picture of the windows that they leave.
 
-ghost use Rattle.std.specs.Prelude.{◌≡◌, ◌↔◌, ◌⊎◌, ◌+◌, ◌<◌, ◌≤◌, List, [], ℕ, Ok, Err, length, map, true};
+ghost use Rattle.std.specs.Prelude.{◌≡◌, ◌↔◌, ◌⊎◌, ◌+◌, ◌<◌, ◌≤◌, List, [], ℕ, Ok, Err, length, true};
 ghost use Rattle.std.specs.List.{AllByRecursion, list_any};
 ghost use Rattle.outside.specs.Logs.{FailedAt, Whole};
 ghost use Rattle.outside.specs.Files.{IsFile};
+ghost use Rattle.calls.specs.Actors.{is_task};
 ghost use Rattle.calls.specs.Lines.{call_count, entries_of, FitsItsTask};
+ghost use Rattle.calls.specs.declared.line.Act.TheVariants as Act;
+ghost use Rattle.calls.specs.declared.line.Line.TheVariants.{Task};
 ghost use Rattle.script.specs.Scripts.{Script, IsScript, IsReady};
-ghost use Rattle.gui_core.specs.States.{state_after};
+ghost use Rattle.gui_core.specs.States.{state_after, is_want_of_memory};
 ghost use Rattle.gui_core.specs.Promises.{window_calls, is_window_call};
 ghost use Rattle.mtgui_top.specs.Changes.{may_change, asks_for_device};
-ghost use Rattle.mtgui_top.specs.Machines.{LineDone, HasRoom, IsFresh};
+ghost use Rattle.gui_core.specs.Histories.{state_of};
+ghost use Rattle.mtgui_top.specs.Histories.{LineDone, HasRoom, IsFresh};
 ghost use Rattle.mtgui_top.specs.Playing.{play_text, paint_text, reason_text};
 ghost use Rattle.mtgui_top.specs.Promises.{ScansShowPainter};
 ghost use Rattle.mtgui_top.specs.Words.{IsCommand};
@@ -29,6 +33,36 @@ use scene::Stack;
 use script::{MOST_BYTES, Reason, Script, ScriptRefused, read};
 use std::alloc::Global;
 
+/// Whether a reply tells that there is no memory for a device.
+fn is_want_of_memory(reply: &Reply) -> bool
+    ensures { result ≡ is_want_of_memory reply.now }
+{
+    matches!(reply, Reply::Refused(Refusal::Memory))
+}
+
+/// Makes a task's call and writes what it is answered. Without memory for a device nothing is done
+/// or written.
+fn perform_call<K: Sink>(
+    alloc: Global,
+    out: &mut K,
+    gui: &mut Gui,
+    task: u16,
+    call: &Call,
+    taken: &mut Vec<u8>,
+) -> Result<(), Stop>
+    requires fits { is_task task ≡ true }
+    requires room { HasRoom gui.old (Task task (Act.Call call.now)) }
+    ensures { LineEnds result gui.old (Task task (Act.Call call.now)) gui.new (K.log out.old)
+        (K.log out.new) }
+{
+    let reply = gui.apply(alloc, task, call, taken);
+    if is_want_of_memory(&reply) {
+        return Err(Stop::Memory);
+    }
+    write_reply(out, call, &reply, taken, gui.shown())?;
+    Ok(())
+}
+
 /// Does what a line says and writes what it is answered. Without memory for a device nothing is
 /// done or written.
 fn perform_line<K: Sink>(
@@ -46,14 +80,7 @@ fn perform_line<K: Sink>(
         Line::Task {
             task,
             act: Act::Call(call),
-        } => {
-            let reply = gui.apply(alloc, *task, call, taken);
-            if let Reply::Refused(Refusal::Memory) = reply {
-                return Err(Stop::Memory);
-            }
-            write_reply(out, call, &reply, taken, gui.shown())?;
-            Ok(())
-        }
+        } => perform_call(alloc, out, gui, *task, call, taken),
         _ => Ok(()),
     }
 }
@@ -63,7 +90,7 @@ fn perform_line<K: Sink>(
 fn perform<K: Sink>(alloc: Global, out: &mut K, gui: &mut Gui, lines: &[Line]) -> Result<(), Stop>
     requires fits { AllByRecursion FitsItsTask lines.now }
     requires fresh { IsFresh gui.old (call_count lines.now) }
-    ensures { LinesEnd result gui.old.setup gui.old.state lines.now (K.log out.old)
+    ensures { LinesEnd result gui.old.setup (state_of gui.old) lines.now (K.log out.old)
         (K.log out.new) }
 {
     let mut taken = Vec::new(alloc);
@@ -195,8 +222,8 @@ fn make_window_calls(alloc: Global, gui: &mut Gui, lines: &[Line])
     requires fits { AllByRecursion FitsItsTask lines.now }
     requires fresh { IsFresh gui.old (call_count lines.now) }
     ensures setup { gui.new.setup ≡ gui.old.setup }
-    ensures state { gui.new.state
-        ≡ state_after gui.old.setup gui.old.state (window_calls (entries_of lines.now)) }
+    ensures state { state_of gui.new
+        ≡ state_after gui.old.setup (state_of gui.old) (window_calls (entries_of lines.now)) }
 {
     let mut taken = Vec::new(alloc);
     for line in lines {
@@ -287,8 +314,8 @@ fn carry_out<S: Store, K: Sink>(
 /// Does `play FILE` or `paint FILE` and answers the exit status: 0 where the file was read to its
 /// end, is a script, and its text was written; 2 where the words are others; 3 where the file is no
 /// script, and its fault line was written; 4 where the store failed at the file; 5 where the sink
-/// failed; 9 where memory ran out. `play` ends at the first device for which there is no memory, and
-/// what it wrote until then stands.
+/// failed; 9 where memory ran out. `play` ends at the first device for which there is no memory,
+/// and what it wrote until then stands.
 pub fn plain_words<S: Store, K: Sink>(
     alloc: Global,
     words: &[String],
@@ -318,14 +345,14 @@ pub fn plain_words<S: Store, K: Sink>(
     ensures store { result ≡ 4 → (verb : Verb) × (name : List ℕ) × IsCommand verb words.now name
         × FailedAt (S.log store.old) (S.log store.new) name
         × Whole (K.log out.old) (K.log out.new) [] }
-    // The sink failed, and a front of the file's text was written.
+    // The sink failed, and a prefix of the file's text was written.
     ensures sink { result ≡ 5 → (verb : Verb) × (name : List ℕ) × IsCommand verb words.now name
         × ShowsFile verb (Err Stop.Sink) (S.log store.old).files name (K.log out.old)
         (K.log out.new) }
     // At other words nothing was written.
     ensures nothing { result ≡ 2 → Whole (K.log out.old) (K.log out.new) [] }
     // Where memory ran out, nothing was written; or the file is a script that was played and makes
-    // devices, and a front of its play text was written.
+    // devices, and a prefix of its play text was written.
     ensures memory { result ≡ 9 → Whole (K.log out.old) (K.log out.new) []
         ⊎ ((name : List ℕ) × (file : List ℕ) × (script : Script)
         × IsCommand Verb.Play words.now name × IsFile (S.log store.old).files name file

@@ -1,3 +1,3 @@
-mod FrontLemmas
+mod PrefixLemmas
 mod KnownBytes
 pub mod CallerLemmas

@@ -27,14 +27,14 @@ pub record Whole (old new : SinkLog) (text : List ℕ) : Type 0 where
   pub later : old.faults ≤ new.faults
   pub bytes : Appends old.written new.written text
 
--- a front of the text was written, and the count rose
+-- a prefix of the text was written, and the count rose
 pub record Broken (old new : SinkLog) (text : List ℕ) : Type 0 where
   pub later : old.faults ≤ new.faults
   pub rose : Rose old.faults new.faults
-  pub front : List ℕ
+  pub prefix : List ℕ
   pub rest : List ℕ
-  pub parts : text ≡ front ++ rest
-  pub bytes : Appends old.written new.written front
+  pub parts : text ≡ prefix ++ rest
+  pub bytes : Appends old.written new.written prefix
 
 -- what became of a text that was to be written
 abbrev pub Wrote : {T E : Type 0} → Result T E → SinkLog → SinkLog → List ℕ → Type 0

@@ -18,14 +18,14 @@ new_sink most failing = record { bytes = []; most = most; plan = plan_of failing
 abbrev pub takes : SinkContents → List ℕ → Bool
 takes sink piece = not (fails sink.plan) && nat_le (length sink.bytes + length piece) sink.most
 
--- the front of a piece that the next write takes
-abbrev pub front_of : SinkContents → List ℕ → List ℕ
-front_of sink piece = if fails sink.plan then [] else take (sink.most - length sink.bytes) piece
+-- the prefix of a piece that the next write takes
+abbrev pub prefix_of : SinkContents → List ℕ → List ℕ
+prefix_of sink piece = if fails sink.plan then [] else take (sink.most - length sink.bytes) piece
 
 -- the sink after the next write
 abbrev pub after_write : SinkContents → List ℕ → SinkContents
 after_write sink piece = record sink {
-  bytes = sink.bytes ++ front_of sink piece;
+  bytes = sink.bytes ++ prefix_of sink piece;
   plan = after_call sink.plan;
   faults = if takes sink piece then sink.faults else one_more sink.faults;
 }

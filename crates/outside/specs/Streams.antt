@@ -7,9 +7,9 @@ pub record Stream (W : Type 0) : Type 0 where
   pub out : W
   pub faults : ℕ
 
--- known bytes grow by a front of the text
-pub record AppendsFront (old new : Option (List ℕ)) (text : List ℕ) : Type 0 where
-  pub front : List ℕ
+-- known bytes grow by a prefix of the text
+pub record AppendsPrefix (old new : Option (List ℕ)) (text : List ℕ) : Type 0 where
+  pub prefix : List ℕ
   pub rest : List ℕ
-  pub parts : text ≡ front ++ rest
-  pub bytes : Appends old new front
+  pub parts : text ≡ prefix ++ rest
+  pub bytes : Appends old new prefix

@@ -5,7 +5,7 @@ ghost use Rattle.outside.specs.StoreContents.{log_of_failures};
 
 use crate::failures::FailedReads;
 use crate::store::{ReadRefused, Store};
-use crate::stream::read_front;
+use crate::stream::read_prefix;
 use std::alloc::Global;
 use std::fs;
 use std::marker::Model;
@@ -56,7 +56,7 @@ impl<R: Files> Store for FileStore<R> {
             return Err(ReadRefused::Memory);
         };
         let read = match fs::open(&self.rt, name) {
-            Ok(file) => read_front(alloc, file, limit),
+            Ok(file) => read_prefix(alloc, file, limit),
             Err(_) => Err(ReadRefused::Failed),
         };
         if let Err(ReadRefused::Failed) = read {

@@ -6,10 +6,10 @@
 
 mod failures;
 mod file_store;
-mod front;
 mod mem_sink;
 mod mem_store;
 mod plan;
+mod prefix;
 mod sink;
 mod std_sink;
 mod store;
@@ -21,4 +21,4 @@ pub use mem_store::{MemStore, NamedFile};
 pub use sink::{Sink, SinkFault};
 pub use std_sink::StdSink;
 pub use store::{ReadRefused, Store};
-pub use stream::{StreamSink, read_front};
+pub use stream::{StreamSink, read_prefix};

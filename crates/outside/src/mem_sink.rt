@@ -1,7 +1,7 @@
 ghost use Rattle.std.specs.Prelude.{◌≡◌, IfOk, IsOk, is_ok};
 
-use crate::front::front_of;
 use crate::plan::FaultPlan;
+use crate::prefix::prefix_of;
 use crate::sink::{Sink, SinkFault};
 use gfx_base::Memory;
 use std::alloc::Global;
@@ -82,7 +82,7 @@ impl Sink for MemSink {
             self.most - self.bytes.len()
         };
         // The room was taken when the sink was made, so this can't fail.
-        let _ = self.bytes.extend_from_slice(front_of(piece, room));
+        let _ = self.bytes.extend_from_slice(prefix_of(piece, room));
         if is_to_fail || room < piece.len() {
             self.faults = self.faults.saturating_add(1);
             return Err(SinkFault);

@@ -3,8 +3,8 @@ ghost use Rattle.outside.specs.Files.{file_of};
 ghost use Rattle.outside.specs.StoreContents.{files_of};
 
 use crate::failures::FailedReads;
-use crate::front::front_of;
 use crate::plan::FaultPlan;
+use crate::prefix::prefix_of;
 use crate::store::{ReadRefused, Store};
 use std::alloc::Global;
 use std::marker::Model;
@@ -98,8 +98,8 @@ impl Store for MemStore {
             self.failures.add(kept_name);
             return Err(ReadRefused::Failed);
         };
-        match Vec::from_slice(alloc, front_of(bytes, limit)) {
-            Ok(front) => Ok(front),
+        match Vec::from_slice(alloc, prefix_of(bytes, limit)) {
+            Ok(prefix) => Ok(prefix),
             Err(_) => Err(ReadRefused::Memory),
         }
     }

@@ -13,7 +13,7 @@ pub trait Sink {
     /// How many writes have failed, and the bytes that were written, where they are told.
     ghost log: { Self → SinkLog };
 
-    /// Appends the piece. After a failure a front of it was appended.
+    /// Appends the piece. After a failure a prefix of it was appended.
     fn write(&mut self, piece: &[u8]) -> Result<(), SinkFault>
         ensures { Wrote result (log self.old) (log self.new) piece.now };
 

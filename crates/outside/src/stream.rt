@@ -2,7 +2,7 @@
 
 ghost use Rattle.std.specs.Prelude.{◌≡◌, ◌≤◌, take, IfOk, IfSome, OnOk, OnErr, vec_len};
 ghost use Rattle.std.specs.Io.KnownBytes.{Appends};
-ghost use Rattle.outside.specs.Streams.{AppendsFront};
+ghost use Rattle.outside.specs.Streams.{AppendsPrefix};
 
 use crate::sink::{Sink, SinkFault};
 use crate::store::ReadRefused;
@@ -15,7 +15,7 @@ const PIECE: usize = 64 * 1024;
 
 /// The first `limit` bytes of what a reader has left, or all of less. A reader that doesn't end is
 /// answered `Failed`, and so is an error other than an interruption, after which it reads on.
-pub fn read_front<F: Read + Drop>(
+pub fn read_prefix<F: Read + Drop>(
     alloc: Global,
     file: F,
     limit: usize,
@@ -24,12 +24,12 @@ pub fn read_front<F: Read + Drop>(
     ensures bytes { IfOk result
         (λ bytes. IfSome (F.remaining file) (λ left. bytes.items ≡ take limit left)) }
 {
-    let mut front = file.take(limit as u64);
+    let mut prefix = file.take(limit as u64);
     let mut bytes = Vec::new(alloc);
     let mut piece = [0; PIECE];
     // Nothing says that a reader ends, so the reads are counted.
     for _ in 0..u64::MAX {
-        match front.read(&mut piece) {
+        match prefix.read(&mut piece) {
             Ok(0) => return Ok(bytes),
             Ok(count) => {
                 if bytes.extend_from_slice(&piece[..count]).is_err() {
@@ -46,7 +46,7 @@ pub fn read_front<F: Read + Drop>(
 /// Writes all of a piece. A write that takes nothing of it is a fault.
 fn write_whole<W: Write>(out: &mut W, piece: &[u8]) -> Result<(), SinkFault>
     ensures ok { OnOk result (Appends (W.contents out.old) (W.contents out.new) piece.now) }
-    ensures err { OnErr result (AppendsFront (W.contents out.old) (W.contents out.new) piece.now) }
+    ensures err { OnErr result (AppendsPrefix (W.contents out.old) (W.contents out.new) piece.now) }
 {
     let mut rest = piece;
     for _ in 0..u64::MAX {

@@ -43,7 +43,8 @@ fn value(numbers: &mut Numbers) -> i32 {
 }
 
 /// Adds a call on how a window of this handle looks: its class, whether it is seen through or
-/// composed aside, and its values, by themselves or by a message. It may be refused, also for a value past the last.
+/// composed aside, and its values, by themselves or by a message. It may be refused, also for a
+/// value past the last.
 fn add_look(numbers: &mut Numbers, script: &mut String, h: u16) -> Result<(), AllocError> {
     let value = value(numbers);
     match numbers.below(8) {

@@ -63,20 +63,20 @@ list_spelled bytes t l = ((t, l), refl)
 text_spelled : (bytes : List ℕ) → slice_index bytes 0 ≡ 6 → length bytes ≡ 8 + u32_at 4 bytes → Spells bytes (Said Cut)
 text_spelled bytes t l = (t, l)
 
--- a whole front of a message goes on to the message
-front_goes_on : (kind : Kind) (head : List ℕ) → slice_index head 0 ≡ kind_byte kind → length head ≡ head_length kind → Completes head
-front_goes_on AFormat head t l = complete head (format_item (format_of (drop 4 head))) (format_stage _) (format_spelled _ head (t, l) refl)
-front_goes_on SomeEncodings head t l =
+-- a whole prefix of a message goes on to the message
+prefix_goes_on : (kind : Kind) (head : List ℕ) → slice_index head 0 ≡ kind_byte kind → length head ≡ head_length kind → Completes head
+prefix_goes_on AFormat head t l = complete head (format_item (format_of (drop 4 head))) (format_stage _) (format_spelled _ head (t, l) refl)
+prefix_goes_on SomeEncodings head t l =
     let n = 4 * u16_at 2 head in
     let bytes : List ℕ = head ++ zeros n in
     let long : length bytes ≡ length head + n = length-append head (zeros n) ∙ ap (λ k. length head + k) (length-replicate n 0) in
     let same : u16_at 2 bytes ≡ u16_at 2 head = u16_stays 2 head (zeros n) (omega arith) in
     (zeros n, Said (SetEncodings (or_raw (first_known (numbers (drop 4 bytes))))), refl, list_spelled bytes (first_stays head (zeros n) (omega arith) ∙ t) (omega arith))
-front_goes_on ARequest head t l =
+prefix_goes_on ARequest head t l =
     complete head (Said (Request (flag_at 1 head) (u16_at 2 head) (u16_at 4 head) (u16_at 6 head) (u16_at 8 head))) refl ((t, l), refl, refl, refl, refl, refl)
-front_goes_on AKey head t l = complete head (Said (Key (flag_at 1 head) (u32_at 4 head))) refl ((t, l), refl, refl)
-front_goes_on APointer head t l = complete head (Said (Pointer (slice_index head 1) (u16_at 2 head) (u16_at 4 head))) refl ((t, l), refl, refl, refl)
-front_goes_on ACut head t l =
+prefix_goes_on AKey head t l = complete head (Said (Key (flag_at 1 head) (u32_at 4 head))) refl ((t, l), refl, refl)
+prefix_goes_on APointer head t l = complete head (Said (Pointer (slice_index head 1) (u16_at 2 head) (u16_at 4 head))) refl ((t, l), refl, refl, refl)
+prefix_goes_on ACut head t l =
     let n = u32_at 4 head in
     let bytes : List ℕ = head ++ zeros n in
     let long : length bytes ≡ length head + n = length-append head (zeros n) ∙ ap (λ k. length head + k) (length-replicate n 0) in
@@ -101,29 +101,29 @@ begun_head (b ∷ kept) h =
     let pad : length (zeros n) ≡ n = length-replicate n 0 in
     let few = h.2 in
     let long : length head ≡ head_length h.0 = length-append (b ∷ kept) (zeros n) ∙ (omega arith) in
-    let whole = front_goes_on h.0 head (kind_byte_of b h.0 h.1) long in
+    let whole = prefix_goes_on h.0 head (kind_byte_of b h.0 h.1) long in
     begun_by AtMessage (b ∷ kept) (zeros n) whole.0 whole.1 (omega arith) whole.2 whole.3
 
-begun_list : (front kept : List ℕ) (left : ℕ) (chosen : Option Encoding) → IsListed front left chosen → length kept < 4 → IsBegun AtMessage (front ++ kept)
-begun_list front kept left chosen l few =
+begun_list : (prefix kept : List ℕ) (left : ℕ) (chosen : Option Encoding) → IsListed prefix left chosen → length kept < 4 → IsBegun AtMessage (prefix ++ kept)
+begun_list prefix kept left chosen l few =
     let n = 4 * left - length kept in
-    let bytes : List ℕ = (front ++ kept) ++ zeros n in
+    let bytes : List ℕ = (prefix ++ kept) ++ zeros n in
     let pad : length (zeros n) ≡ n = length-replicate n 0 in
     let some : 0 < left = l.more in
-    let whole : length front ≡ 4 + 4 * l.came = l.whole in
-    let all : l.came + left ≡ u16_at 2 front = l.all in
-    let both : length (front ++ kept) ≡ length front + length kept = length-append front kept in
-    let long : length bytes ≡ length (front ++ kept) + length (zeros n) = length-append (front ++ kept) (zeros n) in
-    let same : u16_at 2 bytes ≡ u16_at 2 front = u16_stays 2 (front ++ kept) (zeros n) (omega arith) ∙ u16_stays 2 front kept (omega arith) in
-    let type : slice_index bytes 0 ≡ 2 = first_stays (front ++ kept) (zeros n) (omega arith) ∙ first_stays front kept (omega arith) ∙ l.type in
-    begun_by AtMessage (front ++ kept) (zeros n) [] (Said (SetEncodings (or_raw (first_known (numbers (drop 4 bytes)))))) (omega arith) refl
+    let whole : length prefix ≡ 4 + 4 * l.came = l.whole in
+    let all : l.came + left ≡ u16_at 2 prefix = l.all in
+    let both : length (prefix ++ kept) ≡ length prefix + length kept = length-append prefix kept in
+    let long : length bytes ≡ length (prefix ++ kept) + length (zeros n) = length-append (prefix ++ kept) (zeros n) in
+    let same : u16_at 2 bytes ≡ u16_at 2 prefix = u16_stays 2 (prefix ++ kept) (zeros n) (omega arith) ∙ u16_stays 2 prefix kept (omega arith) in
+    let type : slice_index bytes 0 ≡ 2 = first_stays (prefix ++ kept) (zeros n) (omega arith) ∙ first_stays prefix kept (omega arith) ∙ l.type in
+    begun_by AtMessage (prefix ++ kept) (zeros n) [] (Said (SetEncodings (or_raw (first_known (numbers (drop 4 bytes)))))) (omega arith) refl
     (subst (λ (bs : List ℕ). Spells bs (Said (SetEncodings (or_raw (first_known (numbers (drop 4 bytes))))))) (sym (append-nil bytes)) (list_spelled bytes type (omega arith)))
 
 begun_text : (bytes : List ℕ) (left : ℕ) → IsText bytes left → IsBegun AtMessage bytes
 begun_text bytes left t =
     let pad : length (zeros left) ≡ left = length-replicate left 0 in
     let all : length bytes + left ≡ 8 + u32_at 4 bytes = t.all in
-    let front : 8 ≤ length bytes = t.head in
+    let prefix : 8 ≤ length bytes = t.head in
     let some : 0 < left = t.more in
     let long : length (bytes ++ zeros left) ≡ length bytes + length (zeros left) = length-append bytes (zeros left) in
     let same : u32_at 4 (bytes ++ zeros left) ≡ u32_at 4 bytes = u32_stays 4 bytes (zeros left) (omega arith) in

@@ -15,15 +15,15 @@ use Rattle.rfb_msg.proofs.StreamLemmas.{stream_told}
 
 -- ---- cuts
 
--- the answers to a front and those to the rest
+-- the answers to a prefix and those to the rest
 abbrev pub Parts : List ℕ → List ℕ → Held → List Step → Held → Type 0
-Parts front back old steps new =
-    (first : List Step) × (mid : Held) × (more : List Step) × (steps ≡ first ++ more) × Feeds old front first mid × Feeds mid back more new
+Parts prefix back old steps new =
+    (first : List Step) × (mid : Held) × (more : List Step) × (steps ≡ first ++ more) × Feeds old prefix first mid × Feeds mid back more new
 
-pub feeds_parted : (front back : List ℕ) (old new : Held) (steps : List Step) → Feeds old (front ++ back) steps new → Parts front back old steps new
+pub feeds_parted : (prefix back : List ℕ) (old new : Held) (steps : List Step) → Feeds old (prefix ++ back) steps new → Parts prefix back old steps new
 feeds_parted [] back old new steps f = ([], old, steps, refl, (refl, refl), f)
-feeds_parted (b ∷ front) back old new steps f =
-    let t = feeds_parted front back f.1 new f.2 f.5 in
+feeds_parted (b ∷ prefix) back old new steps f =
+    let t = feeds_parted prefix back f.1 new f.2 f.5 in
     (f.0 ∷ t.0, t.1, t.2, f.3 ∙ ap (λ (more : List Step). f.0 ∷ more) t.3, (f.0, f.1, t.0, refl, f.4, t.4), t.5)
 
 -- ---- after a bad byte
@@ -46,9 +46,9 @@ Closes steps items n why new =
 pub bad_closes : (old new : Held) (bytes : List ℕ) (steps : List Step) (items : List Item) (why : Why) → Stands old AtVersion [] → Feeds old bytes steps new
     → (broken : BreaksOff AtVersion bytes items why) → Closes steps items (length broken.back) why new
 bad_closes old new bytes steps items why s f broken =
-    let all : Feeds old (broken.front ++ broken.bad ∷ broken.back) steps new = subst (λ (bs : List ℕ). Feeds old bs steps new) broken.parts f in
-    let t = feeds_parted broken.front (broken.bad ∷ broken.back) old new steps all in
-    let told = stream_told broken.front AtVersion [] old t.1 t.0 items broken.end broken.rest s t.4 broken.stream broken.begun in
+    let all : Feeds old (broken.prefix ++ broken.bad ∷ broken.back) steps new = subst (λ (bs : List ℕ). Feeds old bs steps new) broken.parts f in
+    let t = feeds_parted broken.prefix (broken.bad ∷ broken.back) old new steps all in
+    let told = stream_told broken.prefix AtVersion [] old t.1 t.0 items broken.end broken.rest s t.4 broken.stream broken.begun in
     let g : Feeds t.1 (broken.bad ∷ broken.back) t.2 new = t.5 in
     let now = brings_bad broken.end broken.rest broken.bad g.0 g.1 why (g.4.0 broken.end broken.rest told.2) broken.is_bad in
     let later = closed_later broken.back g.1 new g.2 why now.1 g.5 in
@@ -68,21 +68,21 @@ open_place place kept stage before why s c = subst (λ (p : Place). StandsAt p k
 one_why : (a b : Why) (held : Held) → IsClosed held a → IsClosed held b → a ≡ b
 one_why a b held ha hb = let e : InClosed a ≡ InClosed b = sym ha ∙ hb in cc
 
--- an item more in front
+-- an item more in prefix
 broken_item : (stage : Stage) (before bytes : List ℕ) (b : ℕ) (item : Item) (items : List Item) (why : Why) → IsServed item → stage_of item ≡ stage → Spells (before ++ b ∷ []) item
     → BreaksOff (stage_after item) bytes items why → BreaksOff stage (before ++ b ∷ bytes) (item ∷ items) why
 broken_item stage before bytes b item items why served s spelled broken =
     let first : List ℕ = before ++ b ∷ [] in
     record {
-      front = first ++ broken.front;
+      prefix = first ++ broken.prefix;
       bad = broken.bad;
       back = broken.back;
       end = broken.end;
       rest = broken.rest;
       parts =
           sym (append_assoc before (b ∷ []) bytes) ∙ ap (λ (bs : List ℕ). first ++ bs) broken.parts
-          ∙ sym (append_assoc first broken.front (broken.bad ∷ broken.back));
-      stream = (first, broken.front, refl, s, served, spelled, broken.stream);
+          ∙ sym (append_assoc first broken.prefix (broken.bad ∷ broken.back));
+      stream = (first, broken.prefix, refl, s, served, spelled, broken.stream);
       begun = broken.begun;
       is_bad = broken.is_bad;
     }
@@ -105,7 +105,7 @@ broken_step bytes stage before b mid new (Closed here) steps why g h f c next =
     subst (λ (reason : Why). BreaksOff stage (before ++ b ∷ bytes) (items_of steps) reason) same (
     subst (λ (items : List Item). BreaksOff stage (before ++ b ∷ bytes) items here) (sym none) (
     record {
-      front = before;
+      prefix = before;
       bad = b;
       back = bytes;
       end = stage;

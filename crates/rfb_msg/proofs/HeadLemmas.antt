@@ -71,7 +71,7 @@ version_does kept b few fits =
     let is : length (kept ++ b ∷ []) ≡ 12 = omega arith in
     (refl, (is, more), (refl, refl, refl))))
 
--- ---- the front of a message
+-- ---- the prefix of a message
 
 some_apart : (kind : Kind) → Some kind ≡ None → ⊥
 some_apart kind e = cc
@@ -134,25 +134,25 @@ whole_does ACut kept b t l =
     goes_on AtMessage kept b (InText (u32_at 4 head)) []
     (refl, refl, record { type = t; head = omega arith; all = omega arith; more = omega arith }))
 
--- the front so far is one of a known kind
+-- the prefix so far is one of a known kind
 head_more : (kept : List ℕ) (b : ℕ) (kind : Kind) → kind_of (slice_index (kept ++ b ∷ []) 0) ≡ Some kind → length (kept ++ b ∷ []) < head_length kind → IsHead (kept ++ b ∷ [])
 head_more [] b kind e l = (kind, e, l)
 head_more (a ∷ kept) b kind e l = (kind, e, l)
 
-least_front : (kind : Kind) → 4 ≤ head_length kind
-least_front AFormat = lit≤ tt
-least_front SomeEncodings = lit≤ tt
-least_front ARequest = lit≤ tt
-least_front AKey = lit≤ tt
-least_front APointer = lit≤ tt
-least_front ACut = lit≤ tt
+least_prefix : (kind : Kind) → 4 ≤ head_length kind
+least_prefix AFormat = lit≤ tt
+least_prefix SomeEncodings = lit≤ tt
+least_prefix ARequest = lit≤ tt
+least_prefix AKey = lit≤ tt
+least_prefix APointer = lit≤ tt
+least_prefix ACut = lit≤ tt
 
 same_kind : (a b : Kind) → Some a ≡ Some b → head_length a ≡ head_length b
 same_kind a b e = let s : a ≡ b = cc in ap head_length s
 
--- the front was less than whole before the byte
+-- the prefix was less than whole before the byte
 head_most : (kept : List ℕ) (b : ℕ) (kind : Kind) → IsHead kept → kind_of (slice_index (kept ++ b ∷ []) 0) ≡ Some kind → length (kept ++ b ∷ []) ≤ head_length kind
-head_most [] b kind h e = let l = least_front kind in omega arith
+head_most [] b kind h e = let l = least_prefix kind in omega arith
 head_most (a ∷ kept) b kind h e =
     let s : head_length h.0 ≡ head_length kind = same_kind h.0 kind (sym h.1 ∙ e) in
     let l : length (a ∷ kept) < head_length h.0 = h.2 in

@@ -24,79 +24,79 @@ use Rattle.rfb_msg.proofs.HeadLemmas.{Does, goes_on, length_after, version_does,
 -- ---- the listed encodings
 
 -- one more encoding came
-first_more : (front word : List ℕ) (left : ℕ) (chosen : Option Encoding) → IsListed front left chosen → length word ≡ 4
-    → first_of_two chosen (known (big_number 4 word)) ≡ first_known (numbers (drop 4 (front ++ word)))
-first_more front word left chosen l h =
-    let whole : length front ≡ 4 + 4 * l.came = l.whole in
-    let cut : drop 4 (front ++ word) ≡ drop 4 front ++ word = drop-append-le 4 front word (omega arith) in
-    let long : length (drop 4 front) ≡ length front - 4 = length-drop 4 front in
-    let many : length (drop 4 front) ≡ 4 * l.came = omega arith in
-    let all : numbers (drop 4 front ++ word) ≡ numbers (drop 4 front) ++ big_number 4 word ∷ [] =
-    numbers-append l.came (drop 4 front) word many ∙ ap (λ (ns : List ℕ). numbers (drop 4 front) ++ ns) (one_number word h) in
-    let last : first_known (numbers (drop 4 front) ++ big_number 4 word ∷ []) ≡ first_of_two (first_known (numbers (drop 4 front))) (known (big_number 4 word)) =
-    first_known-append (numbers (drop 4 front)) (big_number 4 word) in
+first_more : (prefix word : List ℕ) (left : ℕ) (chosen : Option Encoding) → IsListed prefix left chosen → length word ≡ 4
+    → first_of_two chosen (known (big_number 4 word)) ≡ first_known (numbers (drop 4 (prefix ++ word)))
+first_more prefix word left chosen l h =
+    let whole : length prefix ≡ 4 + 4 * l.came = l.whole in
+    let cut : drop 4 (prefix ++ word) ≡ drop 4 prefix ++ word = drop-append-le 4 prefix word (omega arith) in
+    let long : length (drop 4 prefix) ≡ length prefix - 4 = length-drop 4 prefix in
+    let many : length (drop 4 prefix) ≡ 4 * l.came = omega arith in
+    let all : numbers (drop 4 prefix ++ word) ≡ numbers (drop 4 prefix) ++ big_number 4 word ∷ [] =
+    numbers-append l.came (drop 4 prefix) word many ∙ ap (λ (ns : List ℕ). numbers (drop 4 prefix) ++ ns) (one_number word h) in
+    let last : first_known (numbers (drop 4 prefix) ++ big_number 4 word ∷ []) ≡ first_of_two (first_known (numbers (drop 4 prefix))) (known (big_number 4 word)) =
+    first_known-append (numbers (drop 4 prefix)) (big_number 4 word) in
     ap (λ (c : Option Encoding). first_of_two c (known (big_number 4 word))) l.first ∙ sym last ∙ sym (ap first_known all) ∙ sym (ap (λ (bs : List ℕ). first_known (numbers bs)) cut)
 
 -- the bytes with one more encoding
-list_more : (front word : List ℕ) (left : ℕ) (chosen : Option Encoding) → IsListed front left chosen → length word ≡ 4 → 1 < left
-    → IsListed (front ++ word) (left - 1) (first_of_two chosen (known (big_number 4 word)))
-list_more front word left chosen l h more =
-    let whole : length front ≡ 4 + 4 * l.came = l.whole in
-    let all : l.came + left ≡ u16_at 2 front = l.all in
-    let same : u16_at 2 (front ++ word) ≡ u16_at 2 front = u16_stays 2 front word (omega arith) in
-    let long : length (front ++ word) ≡ length front + length word = length-append front word in
+list_more : (prefix word : List ℕ) (left : ℕ) (chosen : Option Encoding) → IsListed prefix left chosen → length word ≡ 4 → 1 < left
+    → IsListed (prefix ++ word) (left - 1) (first_of_two chosen (known (big_number 4 word)))
+list_more prefix word left chosen l h more =
+    let whole : length prefix ≡ 4 + 4 * l.came = l.whole in
+    let all : l.came + left ≡ u16_at 2 prefix = l.all in
+    let same : u16_at 2 (prefix ++ word) ≡ u16_at 2 prefix = u16_stays 2 prefix word (omega arith) in
+    let long : length (prefix ++ word) ≡ length prefix + length word = length-append prefix word in
     record {
-      type = first_stays front word (omega arith) ∙ l.type;
+      type = first_stays prefix word (omega arith) ∙ l.type;
       came = l.came + 1;
       whole = omega arith;
       all = omega arith;
       more = omega arith;
-      first = first_more front word left chosen l h;
+      first = first_more prefix word left chosen l h;
     }
 
-list_whole : (front word : List ℕ) (left : ℕ) (chosen : Option Encoding) → IsListed front left chosen → length word ≡ 4 → left ≤ 1
-    → Spells (front ++ word) (Said (SetEncodings (or_raw (first_of_two chosen (known (big_number 4 word))))))
-list_whole front word left chosen l h last =
-    let whole : length front ≡ 4 + 4 * l.came = l.whole in
-    let all : l.came + left ≡ u16_at 2 front = l.all in
+list_whole : (prefix word : List ℕ) (left : ℕ) (chosen : Option Encoding) → IsListed prefix left chosen → length word ≡ 4 → left ≤ 1
+    → Spells (prefix ++ word) (Said (SetEncodings (or_raw (first_of_two chosen (known (big_number 4 word))))))
+list_whole prefix word left chosen l h last =
+    let whole : length prefix ≡ 4 + 4 * l.came = l.whole in
+    let all : l.came + left ≡ u16_at 2 prefix = l.all in
     let some : 0 < left = l.more in
-    let same : u16_at 2 (front ++ word) ≡ u16_at 2 front = u16_stays 2 front word (omega arith) in
-    let long : length (front ++ word) ≡ length front + length word = length-append front word in
-    let size : length (front ++ word) ≡ 4 + 4 * u16_at 2 (front ++ word) = omega arith in
-    ((first_stays front word (omega arith) ∙ l.type, size), ap or_raw (first_more front word left chosen l h))
+    let same : u16_at 2 (prefix ++ word) ≡ u16_at 2 prefix = u16_stays 2 prefix word (omega arith) in
+    let long : length (prefix ++ word) ≡ length prefix + length word = length-append prefix word in
+    let size : length (prefix ++ word) ≡ 4 + 4 * u16_at 2 (prefix ++ word) = omega arith in
+    ((first_stays prefix word (omega arith) ∙ l.type, size), ap or_raw (first_more prefix word left chosen l h))
 
-number_does : (front kept : List ℕ) (b left : ℕ) (chosen : Option Encoding) → IsListed front left chosen → length (kept ++ b ∷ []) ≡ 4
-    → Does AtMessage (front ++ kept) b (on_number left (first_of_two chosen (known (big_number 4 (kept ++ b ∷ [])))), [])
-number_does front kept b left chosen l h =
+number_does : (prefix kept : List ℕ) (b left : ℕ) (chosen : Option Encoding) → IsListed prefix left chosen → length (kept ++ b ∷ []) ≡ 4
+    → Does AtMessage (prefix ++ kept) b (on_number left (first_of_two chosen (known (big_number 4 (kept ++ b ∷ [])))), [])
+number_does prefix kept b left chosen l h =
     let word : List ℕ = kept ++ b ∷ [] in
-    let regrouped : (front ++ kept) ++ b ∷ [] ≡ front ++ word = append_assoc front kept (b ∷ []) in
-    either_way (λ (t : Outcome). Does AtMessage (front ++ kept) b (t, [])) (nat_lt 1 left) _ _
+    let regrouped : (prefix ++ kept) ++ b ∷ [] ≡ prefix ++ word = append_assoc prefix kept (b ∷ []) in
+    either_way (λ (t : Outcome). Does AtMessage (prefix ++ kept) b (t, [])) (nat_lt 1 left) _ _
     (λ (e : nat_lt 1 left ≡ true).
-    goes_on AtMessage (front ++ kept) b (InEncodings (left - 1) (first_of_two chosen (known (big_number 4 word)))) []
-    (refl, front ++ word, regrouped ∙ sym (append-nil (front ++ word)), list_more front word left chosen l h (ltb-true _ _ e), lit< tt))
+    goes_on AtMessage (prefix ++ kept) b (InEncodings (left - 1) (first_of_two chosen (known (big_number 4 word)))) []
+    (refl, prefix ++ word, regrouped ∙ sym (append-nil (prefix ++ word)), list_more prefix word left chosen l h (ltb-true _ _ e), lit< tt))
     (λ (e : nat_lt 1 left ≡ false).
-    let spelled : Spells ((front ++ kept) ++ b ∷ []) (Said (SetEncodings (or_raw (first_of_two chosen (known (big_number 4 word)))))) =
-    subst (λ (bs : List ℕ). Spells bs (Said (SetEncodings (or_raw (first_of_two chosen (known (big_number 4 word))))))) (sym regrouped) (list_whole front word left chosen l h (ltb-false _ _ e)) in
+    let spelled : Spells ((prefix ++ kept) ++ b ∷ []) (Said (SetEncodings (or_raw (first_of_two chosen (known (big_number 4 word)))))) =
+    subst (λ (bs : List ℕ). Spells bs (Said (SetEncodings (or_raw (first_of_two chosen (known (big_number 4 word))))))) (sym regrouped) (list_whole prefix word left chosen l h (ltb-false _ _ e)) in
     (refl, spelled, (refl, refl, tt)))
 
-encodings_does : (front kept : List ℕ) (b left : ℕ) (chosen : Option Encoding) → IsListed front left chosen → length kept < 4
-    → Does AtMessage (front ++ kept) b (after_encodings kept left chosen b)
+encodings_does : (prefix kept : List ℕ) (b left : ℕ) (chosen : Option Encoding) → IsListed prefix left chosen → length kept < 4
+    → Does AtMessage (prefix ++ kept) b (after_encodings kept left chosen b)
 unfolding after_encodings
-encodings_does front kept b left chosen l few =
+encodings_does prefix kept b left chosen l few =
     let more : length (kept ++ b ∷ []) ≡ length kept + 1 = length_after kept b in
-    either_way (Does AtMessage (front ++ kept) b) (nat_lt (length (kept ++ b ∷ [])) 4) _ _
+    either_way (Does AtMessage (prefix ++ kept) b) (nat_lt (length (kept ++ b ∷ [])) 4) _ _
     (λ (e : nat_lt (length (kept ++ b ∷ [])) 4 ≡ true).
-    goes_on AtMessage (front ++ kept) b (InEncodings left chosen) (kept ++ b ∷ []) (refl, front, append_assoc front kept (b ∷ []), l, ltb-true _ _ e))
+    goes_on AtMessage (prefix ++ kept) b (InEncodings left chosen) (kept ++ b ∷ []) (refl, prefix, append_assoc prefix kept (b ∷ []), l, ltb-true _ _ e))
     (λ (e : nat_lt (length (kept ++ b ∷ [])) 4 ≡ false).
     let least : 4 ≤ length (kept ++ b ∷ []) = ltb-false _ _ e in
-    number_does front kept b left chosen l (omega arith))
+    number_does prefix kept b left chosen l (omega arith))
 
 -- ---- a text
 
 text_does : (before : List ℕ) (b left : ℕ) → IsText before left → Does AtMessage before b (after_text left, [])
 unfolding after_text
 text_does before b left t =
-    let front : 8 ≤ length before = t.head in
+    let prefix : 8 ≤ length before = t.head in
     let all : length before + left ≡ 8 + u32_at 4 before = t.all in
     let some : 0 < left = t.more in
     let same : u32_at 4 (before ++ b ∷ []) ≡ u32_at 4 before = u32_stays 4 before (b ∷ []) (omega arith) in

@@ -56,14 +56,14 @@ feeds_heard (b ∷ bytes) stage before old new (step ∷ steps) s f n =
 
 -- ---- a stream is heard
 
--- of two fronts of a list, one begins with the other
-fronts : (a b x y : List ℕ) → a ++ x ≡ b ++ y → ((z : List ℕ) × (b ≡ a ++ z)) ⊎ ((z : List ℕ) × (a ≡ b ++ z))
-fronts [] b x y e = inl (b, refl)
-fronts (c ∷ a) [] x y e = inr (c ∷ a, refl)
-fronts (c ∷ a) (d ∷ b) x y e =
+-- of two prefixes of a list, one begins with the other
+prefixes : (a b x y : List ℕ) → a ++ x ≡ b ++ y → ((z : List ℕ) × (b ≡ a ++ z)) ⊎ ((z : List ℕ) × (a ≡ b ++ z))
+prefixes [] b x y e = inl (b, refl)
+prefixes (c ∷ a) [] x y e = inr (c ∷ a, refl)
+prefixes (c ∷ a) (d ∷ b) x y e =
     let head : c ≡ d = cc in
     let tail : a ++ x ≡ b ++ y = cc in
-    elim (fronts a b x y tail) [
+    elim (prefixes a b x y tail) [
       | inl t ↦ inl (t.0, ap (λ (k : ℕ). k ∷ b) (sym head) ∙ ap (λ (l : List ℕ). c ∷ l) t.1)
       | inr t ↦ inr (t.0, ap (λ (k : ℕ). k ∷ a) head ∙ ap (λ (l : List ℕ). d ∷ l) t.1)
     ]
@@ -72,16 +72,16 @@ none_right : (a b : List ℕ) → a ++ b ≡ [] → b ≡ []
 none_right [] b e = e
 none_right (c ∷ a) b e = cc
 
--- what is begun has no item in front
-no_item_in_front : (stage : Stage) (bytes first more : List ℕ) (item : Item) → IsBegun stage bytes → bytes ≡ first ++ more → stage_of item ≡ stage → Spells first item → ⊥
-no_item_in_front stage bytes first more item g e s spelled =
+-- what is begun has no item in prefix
+no_item_in_prefix : (stage : Stage) (bytes first more : List ℕ) (item : Item) → IsBegun stage bytes → bytes ≡ first ++ more → stage_of item ≡ stage → Spells first item → ⊥
+no_item_in_prefix stage bytes first more item g e s spelled =
     let whole : Spells (first ++ (more ++ g.0)) g.1 =
     subst (λ (bs : List ℕ). Spells bs g.1) (ap (λ (bs : List ℕ). bs ++ g.0) e ∙ append_assoc first more g.0) g.4 in
     g.2 (none_right more g.0 (item_ends first (more ++ g.0) item g.1 (s ∙ sym g.3) spelled whole))
 
 same_first : (a b x y : List ℕ) (i j : Item) → stage_of i ≡ stage_of j → Spells a i → Spells b j → a ++ x ≡ b ++ y → a ≡ b
 same_first a b x y i j s hi hj e =
-    elim (fronts a b x y e) [
+    elim (prefixes a b x y e) [
       | inl t ↦
           let none : t.0 ≡ [] = item_ends a t.0 i j s hi (subst (λ (bs : List ℕ). Spells bs j) t.1 hj) in
           sym (t.1 ∙ ap (λ (z : List ℕ). a ++ z) none ∙ append-nil a)
@@ -101,11 +101,11 @@ bad_ends stage before more b (BadFormat e) item h s spelled =
     let here : Spells (before ++ b ∷ []) item = subst (λ (bs : List ℕ). Spells bs item) (ap (λ (z : List ℕ). (before ++ b ∷ []) ++ z) none ∙ append-nil (before ++ b ∷ [])) spelled in
     (none, bad_item stage before b (BadFormat e) item h s here)
 
-bad_in_front : (stage : Stage) (before bytes first more z : List ℕ) (b : ℕ) (why : Why) (item : Item) → IsBad stage before b why → IsBegun stage before → stage_of item ≡ stage → IsServed item → Spells first item
+bad_in_prefix : (stage : Stage) (before bytes first more z : List ℕ) (b : ℕ) (why : Why) (item : Item) → IsBad stage before b why → IsBegun stage before → stage_of item ≡ stage → IsServed item → Spells first item
     → first ++ more ≡ before ++ b ∷ bytes → first ≡ before ++ z → ⊥
-bad_in_front stage before bytes first more [] b why item h g s served spelled e p =
-    no_item_in_front stage before first [] item g (sym (append-nil before) ∙ sym p ∙ sym (append-nil first)) s spelled
-bad_in_front stage before bytes first more (c ∷ z) b why item h g s served spelled e p =
+bad_in_prefix stage before bytes first more [] b why item h g s served spelled e p =
+    no_item_in_prefix stage before first [] item g (sym (append-nil before) ∙ sym p ∙ sym (append-nil first)) s spelled
+bad_in_prefix stage before bytes first more (c ∷ z) b why item h g s served spelled e p =
     let rest : (c ∷ z) ++ more ≡ b ∷ bytes = append_cancel_left before ((c ∷ z) ++ more) (b ∷ bytes) (sym (append_assoc before (c ∷ z) more) ∙ sym (ap (λ (bs : List ℕ). bs ++ more) p) ∙ e) in
     let head : c ≡ b = cc in
     let from : first ≡ (before ++ b ∷ []) ++ z = p ∙ ap (λ (k : ℕ). before ++ k ∷ z) head ∙ sym (append_assoc before (b ∷ []) z) in
@@ -121,9 +121,9 @@ bad_stream stage before bytes b why [] end rest h g t k =
     let ends = bad_ends stage before (bytes ++ k.0) b why k.1 h (k.3 ∙ t.0) (subst (λ (bs : List ℕ). Spells bs k.1) from k.4) in
     k.2 (none_right bytes k.0 ends.0)
 bad_stream stage before bytes b why (item ∷ items) end rest h g t k =
-    elim (fronts t.0 before t.1 (b ∷ bytes) (sym t.2)) [
-      | inl p ↦ no_item_in_front stage before t.0 p.0 item g p.1 t.3 t.5
-      | inr p ↦ bad_in_front stage before bytes t.0 t.1 p.0 b why item h g t.3 t.4 t.5 (sym t.2) p.1
+    elim (prefixes t.0 before t.1 (b ∷ bytes) (sym t.2)) [
+      | inl p ↦ no_item_in_prefix stage before t.0 p.0 item g p.1 t.3 t.5
+      | inr p ↦ bad_in_prefix stage before bytes t.0 t.1 p.0 b why item h g t.3 t.4 t.5 (sym t.2) p.1
     ]
 
 -- the answers tell these items, none that the reader is closed, and the reader stands for the rest
@@ -134,13 +134,13 @@ nothing_left : (stage : Stage) (before : List ℕ) (old : Held) (items : List It
 nothing_left stage before old [] end rest s t =
     (tt, refl, subst (λ (st : Stage). Stands old st rest) (sym t.0) (subst (λ (bs : List ℕ). Stands old stage bs) (sym (t.1 ∙ append-nil before)) s))
 nothing_left stage before old (item ∷ items) end rest s t =
-    absurd (no_item_in_front stage before t.0 t.1 item (begun_where_standing old.place old.kept stage before s) (sym (append-nil before) ∙ t.2) t.3 t.5)
+    absurd (no_item_in_prefix stage before t.0 t.1 item (begun_where_standing old.place old.kept stage before s) (sym (append-nil before) ∙ t.2) t.3 t.5)
 
 -- an item that is whole is the stream's first
 first_item : (stage : Stage) (before bytes : List ℕ) (b : ℕ) (item : Item) (items : List Item) (end : Stage) (rest : List ℕ) → stage_of item ≡ stage → Spells (before ++ b ∷ []) item
     → StreamFrom stage (before ++ b ∷ bytes) items end rest → IsBegun end rest → (more : List Item) × (items ≡ item ∷ more) × StreamFrom (stage_after item) bytes more end rest
 first_item stage before bytes b item [] end rest s spelled t k =
-    absurd (no_item_in_front end rest (before ++ b ∷ []) bytes item k (t.1 ∙ sym (append_assoc before (b ∷ []) bytes)) (s ∙ sym t.0) spelled)
+    absurd (no_item_in_prefix end rest (before ++ b ∷ []) bytes item k (t.1 ∙ sym (append_assoc before (b ∷ []) bytes)) (s ∙ sym t.0) spelled)
 first_item stage before bytes b item (j ∷ items) end rest s spelled t k =
     let both : (before ++ b ∷ []) ++ bytes ≡ t.0 ++ t.1 = append_assoc before (b ∷ []) bytes ∙ t.2 in
     let first : before ++ b ∷ [] ≡ t.0 = same_first (before ++ b ∷ []) t.0 bytes t.1 item j (s ∙ sym t.3) spelled t.5 both in

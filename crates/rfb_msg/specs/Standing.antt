@@ -40,7 +40,7 @@ StandsAt InVersion kept stage bytes =
 StandsAt InInit kept stage bytes = (stage ≡ AtInit) × (bytes ≡ []) × (kept ≡ [])
 StandsAt InHead kept stage bytes = (stage ≡ AtMessage) × (bytes ≡ kept) × IsHead kept
 StandsAt (InEncodings left chosen) kept stage bytes =
-    (stage ≡ AtMessage) × (front : List ℕ) × (bytes ≡ front ++ kept) × IsListed front left chosen
+    (stage ≡ AtMessage) × (prefix : List ℕ) × (bytes ≡ prefix ++ kept) × IsListed prefix left chosen
     × (length kept < 4)
 StandsAt (InText left) kept stage bytes = (stage ≡ AtMessage) × (kept ≡ []) × IsText bytes left
 StandsAt (InClosed why) kept stage bytes = ⊥

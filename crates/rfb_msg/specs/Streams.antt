@@ -28,13 +28,13 @@ Stream bytes items rest =
 -- The bytes are such items, then less than one more, and then a byte that is bad for this reason.
 -- What follows it may be anything.
 pub record BreaksOff (stage : Stage) (bytes : List ℕ) (items : List Item) (why : Why) : Type 0 where
-  pub front : List ℕ
+  pub prefix : List ℕ
   pub bad : ℕ
   pub back : List ℕ
   pub end : Stage
   pub rest : List ℕ
-  pub parts : bytes ≡ front ++ bad ∷ back
-  pub stream : StreamFrom stage front items end rest
+  pub parts : bytes ≡ prefix ++ bad ∷ back
+  pub stream : StreamFrom stage prefix items end rest
   pub begun : IsBegun end rest
   pub is_bad : IsBad end rest bad why
 

@@ -51,13 +51,13 @@ pub fn bad_bytes_close()
 
 /// Does nothing. It doesn't matter where the bytes are cut.
 pub fn cuts_do_not_matter()
-    ensures joined { (front back : List ℕ) (old mid new : Held) (steps more : List Step)
-        → Feeds old front steps mid → Feeds mid back more new
-        → Feeds old (front ++ back) (steps ++ more) new }
-    ensures parted { (front back : List ℕ) (old new : Held) (steps : List Step)
-        → Feeds old (front ++ back) steps new
+    ensures joined { (prefix back : List ℕ) (old mid new : Held) (steps more : List Step)
+        → Feeds old prefix steps mid → Feeds mid back more new
+        → Feeds old (prefix ++ back) (steps ++ more) new }
+    ensures parted { (prefix back : List ℕ) (old new : Held) (steps : List Step)
+        → Feeds old (prefix ++ back) steps new
         → (first : List Step) × (mid : Held) × (more : List Step) × (steps ≡ first ++ more)
-        × Feeds old front first mid × Feeds mid back more new }
+        × Feeds old prefix first mid × Feeds mid back more new }
 {}
 
 /// Does nothing. Its clauses say what some bytes spell: a version, a request, a list of encodings.

@@ -6,7 +6,7 @@ use crate::message::{Step, Why};
 use crate::place::{Kept, Outcome, Place};
 
 /// What each version begins with.
-const FRONT: [u8; 8] = *b"RFB 003.";
+const PREFIX: [u8; 8] = *b"RFB 003.";
 
 /// Whether a version may have this byte at this place: `RFB 003.`, three digits and byte 10.
 #[tactic(auto, unfolding(crate::specs::Grammar::is_version_byte))]
@@ -14,7 +14,7 @@ fn is_version_byte(place: usize, byte: u8) -> bool
     ensures { result ≡ is_version_byte place byte }
 {
     if place < 8 {
-        byte == FRONT[place]
+        byte == PREFIX[place]
     } else if place < 11 {
         b'0' <= byte && byte <= b'9'
     } else {

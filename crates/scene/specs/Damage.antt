@@ -1,4 +1,4 @@
--- Which points of the screen wait to be painted.
+-- Which points of the screen are damaged: those that are still to be painted.
 use Rattle.std.specs.Prelude.{ℕ, zero, suc, pos, Bool, false, ◌&&◌, ◌||◌, not, if◌then◌else◌, List, [], ◌∷◌, map, Option, Some, None}
 use Rattle.gfx_base.specs.declared.point.Point.{Point}
 use Rattle.gfx_base.specs.declared.rect.Rect.{Rect}
@@ -28,7 +28,7 @@ windows_seeing looks [] p = []
 windows_seeing looks (w ∷ ws) p =
     if is_seen looks w ws p then w ∷ windows_seeing looks ws p else windows_seeing looks ws p
 
--- whether the point lies in the window's patch: it sees it, and it waits to be painted there
+-- whether the point lies in the window's patch: it sees it, and is invalid there
 abbrev pub in_patch : Looks → Win → List Win → Point → Bool
 in_patch looks w above p = is_seen looks w above p && is_invalid_at p w
 

@@ -83,7 +83,7 @@ window_changed handle change ws = map (λ w. if w.handle == handle then change w
 
 -- ---- what calls do to a window
 
--- a new window: shown, not transparent, and with nothing that waits to be painted
+-- a new window: shown, not transparent, and nowhere invalid
 abbrev pub new_window : ℕ → ℕ → ℤ → ℤ → ℕ → ℕ → ℕ → Win
 new_window handle parent x y w h class = record {
   handle = handle;

@@ -28,7 +28,8 @@ pub struct Win {
     pub memdev: bool,
     /// The values that its class paints by and that messages change.
     pub values: [i16; 16],
-    /// The rectangle of the screen in which it waits to be painted, if it does. It is never empty.
+    /// The rectangle of the screen in which it is invalid, if it is: there it is to be painted
+    /// again. It is never empty.
     pub invalid: Option<Rect>,
 }
 

@@ -24,7 +24,7 @@ use Rattle.script.specs.declared.fault.Reason.TheVariants as reason
 use Rattle.script.specs.Fields.{screen_in, desktop_in, class_in, string_in, font_in, bitmap_in}
 use Rattle.script.specs.Later.{is_one_of, asset_words}
 use Rattle.script.specs.Scripts.{screen_fields, desktop_fields, class_text, string_text, with_string, Item, Title, Screen, Buffers, Desktop, StringOf, CallOf, Before, nothing, after, Spells, plain_class, font_fields, font_text, bitmap_fields, bitmap_text, may_do, HeadFits}
-use Rattle.script.specs.Faults.{IsFront, StandsAt, AreWhole, AreOpen, OpensClass, OpensDrawing}
+use Rattle.script.specs.Faults.{IsPrefix, StandsAt, AreWhole, AreOpen, OpensClass, OpensDrawing}
 use Rattle.script.specs.Reading.{Draft, after_value, after_title, after_screen, after_buffers, after_desktop, after_block, after_class, after_string, after_early, after_asset, after_other, after_call, after_body, after_words, after_line, with_screen, with_colour, opened, before_at, place_at, place_of, header_reason, call_reason, empty_draft, gone_on, block_after, closed, after_font, after_bitmap, takes_comments, IsBlock, IsStage, IsDraft, with_call, after_call_line}
 use Rattle.glyph_font.specs.Reading as fonts
 use Rattle.bitmap.specs.Reading as bitmaps
@@ -42,12 +42,12 @@ HasItems header d lines = AreWhole lines (before_at header d)
 
 -- the lines are items, and the lines of an open block
 pub record HasBlock (d : Draft) (c : Block) (lines : List (List ℕ)) : Type 0 where
-  pub front : List (List ℕ)
-  pub has : HasItems 4 d front
+  pub prefix : List (List ℕ)
+  pub has : HasItems 4 d prefix
   pub none : length d.said.lines ≡ 0
   pub part : List (List ℕ)
   pub says : Says (before_at 4 d) c part
-  pub parts : lines ≡ front ++ part
+  pub parts : lines ≡ prefix ++ part
 
 abbrev pub StandsIn : Stage → Draft → List (List ℕ) → Type 0
 StandsIn stage.Title d lines = HasItems 0 d lines
@@ -77,12 +77,12 @@ with_comment header d lines line has is = record { items = has.items; spelled = 
 
 class_comment_stands : (d : Draft) (class : Class) (lines : List (List ℕ)) (line : List ℕ) → HasBlock d (block.Class class) lines → is_comment line ≡ true → HasBlock d (block.Class class) (lines ++ line ∷ [])
 class_comment_stands d class lines line has is = record {
-  front = has.front;
+  prefix = has.prefix;
   has = has.has;
   none = has.none;
   part = has.part ++ line ∷ [];
   says = class_comment (before_at 4 d) class has.part line has.says is;
-  parts = ap (λ (ls : List (List ℕ)). ls ++ line ∷ []) has.parts ∙ append_assoc has.front has.part (line ∷ []);
+  parts = ap (λ (ls : List (List ℕ)). ls ++ line ∷ []) has.parts ∙ append_assoc has.prefix has.part (line ∷ []);
 }
 
 comment_stands : (s : Stage) (d : Draft) (lines : List (List ℕ)) (line : List ℕ) → StandsIn s d lines → is_comment line ≡ true → takes_comments s ≡ true → StandsIn s d (lines ++ line ∷ [])
@@ -145,18 +145,18 @@ block_ends : (d e : Draft) (c next : Block) (lines : List (List ℕ)) (line : Li
 block_ends d e c next lines line has is same =
     let b : Before = before_at 4 d in
     let whole = says_whole b c next has.part line (record { header = refl; none = has.none }) has.says is in
-    let all : has.front ++ (has.part ++ line ∷ []) ≡ lines ++ line ∷ [] = sym (append_assoc has.front has.part (line ∷ [])) ∙ ap (λ (ls : List (List ℕ)). ls ++ line ∷ []) (sym has.parts) in
-    subst (λ (x : Draft). Next x lines line) same (subst (HasItems 4 (closed d next)) all (push 4 4 d (closed d next) has.front (has.part ++ line ∷ []) whole.0 has.has whole.1 whole.2))
+    let all : has.prefix ++ (has.part ++ line ∷ []) ≡ lines ++ line ∷ [] = sym (append_assoc has.prefix has.part (line ∷ [])) ∙ ap (λ (ls : List (List ℕ)). ls ++ line ∷ []) (sym has.parts) in
+    subst (λ (x : Draft). Next x lines line) same (subst (HasItems 4 (closed d next)) all (push 4 4 d (closed d next) has.prefix (has.part ++ line ∷ []) whole.0 has.has whole.1 whole.2))
 
 block_goes_on : (d e : Draft) (c next : Block) (lines : List (List ℕ)) (line : List ℕ) → HasBlock d c lines → block_after d.said.assets c line ≡ Ok (next, false) → opened d next ≡ e → Next e lines line
 block_goes_on d e c next lines line has is same =
     let more : HasBlock (opened d next) next (lines ++ line ∷ []) = record {
-      front = has.front;
+      prefix = has.prefix;
       has = has.has;
       none = has.none;
       part = has.part ++ line ∷ [];
       says = says_more (before_at 4 d) c next has.part line has.says is;
-      parts = ap (λ (ls : List (List ℕ)). ls ++ line ∷ []) has.parts ∙ append_assoc has.front has.part (line ∷ []);
+      parts = ap (λ (ls : List (List ℕ)). ls ++ line ∷ []) has.parts ∙ append_assoc has.prefix has.part (line ∷ []);
     } in
     subst (λ (x : Draft). Next x lines line) same more
 
@@ -191,7 +191,7 @@ call_stands d e lines line l body has read is =
 
 -- the first line of a block
 opens_block : (d : Draft) (lines : List (List ℕ)) (first : List ℕ) (c : Block) → HasItems 4 d lines → length d.said.lines ≡ 0 → Says (before_at 4 d) c (first ∷ []) → HasBlock (opened d c) c (lines ++ first ∷ [])
-opens_block d lines first c has none says = record { front = lines; has = has; none = none; part = first ∷ []; says = says; parts = refl }
+opens_block d lines first c has none says = record { prefix = lines; has = has; none = none; part = first ∷ []; says = says; parts = refl }
 
 class_stands : (d e : Draft) (lines : List (List ℕ)) (line : List ℕ) (words : List (List ℕ)) (o : Option (ℕ × Option ℕ)) → HasItems 4 d lines → length d.said.lines ≡ 0 → words_of line ≡ codes "class" ∷ words → class_in words ≡ o → after_class d o ≡ Ok e → Next e lines line
 class_stands d e lines line words None has none spelled read is = absurd cc
@@ -373,11 +373,11 @@ line_stands : (d e : Draft) (lines : List (List ℕ)) (line : List ℕ) → Stan
 line_stands d e lines line stands (comment is takes same) = subst (λ (x : Draft). Next x lines line) same (comment_stands d.stage d lines line stands is takes)
 line_stands d e lines line stands (other words) = words_stand d.stage d e lines line refl stands words
 
-stands_after : (d e : Draft) (front lines : List (List ℕ)) → Stands d front → run after_line d lines ≡ Ok e → Stands e (front ++ lines)
-stands_after d e front [] stands is = subst (Stands e) (sym (append-nil front)) (subst (λ (x : Draft). Stands x front) (ok_is d e is) stands)
-stands_after d e front (line ∷ lines) stands is =
+stands_after : (d e : Draft) (prefix lines : List (List ℕ)) → Stands d prefix → run after_line d lines ≡ Ok e → Stands e (prefix ++ lines)
+stands_after d e prefix [] stands is = subst (Stands e) (sym (append-nil prefix)) (subst (λ (x : Draft). Stands x prefix) (ok_is d e is) stands)
+stands_after d e prefix (line ∷ lines) stands is =
     let next = on_ok (after_line d line) (λ next. run after_line next lines) e is in
-    subst (Stands e) (append_assoc front (line ∷ []) lines) (stands_after next.0 e (front ++ line ∷ []) lines (line_stands d next.0 front line stands (took d next.0 line next.1).1) next.2)
+    subst (Stands e) (append_assoc prefix (line ∷ []) lines) (stands_after next.0 e (prefix ++ line ∷ []) lines (line_stands d next.0 prefix line stands (took d next.0 line next.1).1) next.2)
 
 pub printable_read : (d e : Draft) (lines : List (List ℕ)) → run after_line d lines ≡ Ok e → AllByRecursion (λ line. is_printable line ≡ true) lines
 printable_read d e [] is = tt
@@ -485,7 +485,7 @@ draft_kept d e line is after = by_took (took d e line after).1 where
 
 open_there : (d : Draft) (c : Block) (Opens : Before → List (List ℕ) → Type 0) (lines : List (List ℕ)) → (has : HasBlock d c lines) → Opens (before_at 4 d) has.part → AreOpen Opens lines
 open_there d c Opens lines has opens = record {
-  front = has.front;
+  prefix = has.prefix;
   before = before_at 4 d;
   whole = has.has;
   early = record { header = refl; none = has.none };
@@ -504,5 +504,5 @@ place_stands (stage.Block (block.Class class)) d lines has = open_there d (block
 place_stands (stage.Block (block.Font font)) d lines has = open_there d (block.Font font) OpensDrawing lines has (inl (font_opens (before_at 4 d) font has.part has.says))
 place_stands (stage.Block (block.Bitmap bitmap)) d lines has = open_there d (block.Bitmap bitmap) OpensDrawing lines has (inr (bitmap_opens (before_at 4 d) bitmap has.part has.says))
 
-pub front_read : (d : Draft) (lines : List (List ℕ)) → run after_line empty_draft lines ≡ Ok d → IsFront lines (place_of d)
-front_read d lines is = (printable_read empty_draft d lines is, place_stands d.stage d lines (read_stands d lines is))
+pub prefix_read : (d : Draft) (lines : List (List ℕ)) → run after_line empty_draft lines ≡ Ok d → IsPrefix lines (place_of d)
+prefix_read d lines is = (printable_read empty_draft d lines is, place_stands d.stage d lines (read_stands d lines is))

@@ -6,7 +6,7 @@ mod BodyLaws
 mod BlockLaws
 mod ItemLaws
 mod DraftLaws
-mod FrontLaws
+mod PrefixLaws
 mod ReasonLaws
 mod ReadingLaws
 mod ExampleLaws

@@ -25,21 +25,21 @@ use Rattle.script.specs.declared.fault.ScriptFault.{ScriptFault}
 use Rattle.script.specs.declared.fault.ScriptRefused.{ScriptRefused}
 use Rattle.script.specs.declared.fault.ScriptRefused.TheVariants as read_error
 use Rattle.script.specs.Scripts.{Item, Title, Screen, Buffers, Desktop, FontOf, BitmapOf, StringOf, ClassOf, CallOf, Before, nothing, after, after_items, Spells, AreItemsOf, listing_of, plain_class, class_of, Script, script_for, IsScript, IsNoScript, IsReady, are_free}
-use Rattle.script.specs.Faults.{Between, IsFront, Why, why_cut, IsFault, IsError}
+use Rattle.script.specs.Faults.{Between, IsPrefix, Why, why_cut, IsFault, IsError}
 use Rattle.script.specs.Reading.{Draft, empty_draft, after_line, place_at, place_of, from_line, read_of, Reads, Says}
 use Rattle.script.proofs.AssetLemmas.{class_more, font_more, bitmap_more, string_more}
 use Rattle.script.proofs.BodyLaws.{class_sound}
 use Rattle.script.proofs.ItemLaws.{one_script}
-use Rattle.script.proofs.DraftLaws.{HasItems, StandsIn, front_read, printable_read, read_stands}
-use Rattle.script.proofs.FrontLaws.{front_reads}
+use Rattle.script.proofs.DraftLaws.{HasItems, StandsIn, prefix_read, printable_read, read_stands}
+use Rattle.script.proofs.PrefixLaws.{prefix_reads}
 use Rattle.script.proofs.ReasonLaws.{line_why, one_reason}
 
-reading : IsReading after_line empty_draft place_of IsFront Why
+reading : IsReading after_line empty_draft place_of IsPrefix Why
 reading = record {
-  sound = λ xs d is. front_read d xs is;
-  complete = λ xs place front. front_reads xs place front;
+  sound = λ xs d is. prefix_read d xs is;
+  complete = λ xs place prefix. prefix_reads xs place prefix;
   reasons = λ xs d line why is wrong. line_why d line why wrong;
-  one_reason = λ xs place line r s front longer is also. one_reason place line r s is also;
+  one_reason = λ xs place line r s prefix longer is also. one_reason place line r s is also;
 }
 
 -- ---- what a script is ready for
@@ -221,10 +221,10 @@ script_of file d short read none =
     }
 
 abbrev SaysOf : List ℕ → Result Draft (ℕ × Reason) → Type 0
-SaysOf file r = lines.Describes after_line empty_draft place_of IsFront Why why_cut (lines_of file) r
+SaysOf file r = lines.Describes after_line empty_draft place_of IsPrefix Why why_cut (lines_of file) r
 
 lines_say : (file : List ℕ) → SaysOf file (from_line 1 empty_draft (lines_of file))
-lines_say file = lines.read_says after_line empty_draft place_of IsFront Why why_cut reading (lines_of file)
+lines_say file = lines.read_says after_line empty_draft place_of IsPrefix Why why_cut reading (lines_of file)
 
 -- what was read of a file
 abbrev Describes : List ℕ → Result Draft (ℕ × Reason) → Type 0
@@ -245,8 +245,8 @@ file_says file = by_length file (leb (length file) 100663296) refl
 
 -- ---- a script or a fault
 
-front_of : (file : List ℕ) (s : Script) (is : IsScript file s) → IsFront (lines_of file) (Between (after_items is.items))
-front_of file s is = (is.printable, record { items = is.items; spelled = is.spelled; before = refl })
+prefix_of : (file : List ℕ) (s : Script) (is : IsScript file s) → IsPrefix (lines_of file) (Between (after_items is.items))
+prefix_of file s is = (is.printable, record { items = is.items; spelled = is.spelled; before = refl })
 
 ends : (b : Before) → b.header ≡ 4 → are_free b.locks ≡ true → why_cut (Between b) ≡ None
 ends b header free = rw (header, free) refl
@@ -254,7 +254,7 @@ ends b header free = rw (header, free) refl
 pub no_script_with_fault : (file : List ℕ) (fault : ScriptFault) → IsFault file fault → IsNoScript file
 no_script_with_fault file fault (inl long) s is = let short = is.short in let large = long.0 in absurd (omega arith)
 no_script_with_fault file fault (inr wrong) s is =
-    lines.not_both after_line empty_draft place_of IsFront Why why_cut reading (lines_of file) (Between (after_items is.items)) fault.line fault.why (front_of file s is) (ends (after_items is.items) is.header is.free) wrong.1
+    lines.not_both after_line empty_draft place_of IsPrefix Why why_cut reading (lines_of file) (Between (after_items is.items)) fault.line fault.why (prefix_of file s is) (ends (after_items is.items) is.header is.free) wrong.1
 
 fault_by : (file : List ℕ) (r : Result Draft (ℕ × Reason)) → Describes file r → IsNoScript file → (fault : ScriptFault) × IsFault file fault
 fault_by file (Ok d) is none = absurd (none (script_for d.said) is)
@@ -271,7 +271,7 @@ one_fault file a b (inl is) (inl also) = is.1 ∙ sym also.1
 one_fault file a b (inl is) (inr also) = let large = is.0 in let short = also.0 in absurd (omega arith)
 one_fault file a b (inr is) (inl also) = let large = also.0 in let short = is.0 in absurd (omega arith)
 one_fault file a b (inr is) (inr also) =
-    let same = lines.one_fault after_line empty_draft place_of IsFront Why why_cut reading (lines_of file) a.line b.line a.why b.why is.1 also.1 in
+    let same = lines.one_fault after_line empty_draft place_of IsPrefix Why why_cut reading (lines_of file) a.line b.line a.why b.why is.1 also.1 in
     ap (λ (n : ℕ). fault_at n a.why) same.0 ∙ ap (fault_at b.line) same.1
 
 -- ---- for `read`
@@ -312,24 +312,24 @@ whole_ready file rest n d empty at free read =
     ended n d None e = refl
     ended n d (Some why) e = absurd cc
 
--- ---- a file and its front of one byte more than a script may have say the same
+-- ---- a file and its prefix of one byte more than a script may have say the same
 
-short_front : (file : List ℕ) → length (take 100663297 file) ≤ 100663296 → take 100663297 file ≡ file
-short_front file short = let count = length-take 100663297 file in take_all 100663297 file (omega arith)
+short_prefix : (file : List ℕ) → length (take 100663297 file) ≤ 100663296 → take 100663297 file ≡ file
+short_prefix file short = let count = length-take 100663297 file in take_all 100663297 file (omega arith)
 
-whole_front : (file : List ℕ) → length file ≤ 100663296 → take 100663297 file ≡ file
-whole_front file short = take_all 100663297 file (omega arith)
+whole_prefix : (file : List ℕ) → length file ≤ 100663296 → take 100663297 file ≡ file
+whole_prefix file short = take_all 100663297 file (omega arith)
 
 pub script-take : (file : List ℕ) (s : Script) → IsScript (take 100663297 file) s → IsScript file s
-script-take file s is = subst (λ (f : List ℕ). IsScript f s) (short_front file is.short) is
+script-take file s is = subst (λ (f : List ℕ). IsScript f s) (short_prefix file is.short) is
 
 pub take-script : (file : List ℕ) (s : Script) → IsScript file s → IsScript (take 100663297 file) s
-take-script file s is = subst (λ (f : List ℕ). IsScript f s) (sym (whole_front file is.short)) is
+take-script file s is = subst (λ (f : List ℕ). IsScript f s) (sym (whole_prefix file is.short)) is
 
 pub fault-take : (file : List ℕ) (fault : ScriptFault) → IsFault (take 100663297 file) fault → IsFault file fault
 fault-take file fault (inl long) = let count = length-take 100663297 file in let large = long.0 in inl (omega arith, long.1)
-fault-take file fault (inr wrong) = subst (λ (f : List ℕ). IsFault f fault) (short_front file wrong.0) (inr wrong)
+fault-take file fault (inr wrong) = subst (λ (f : List ℕ). IsFault f fault) (short_prefix file wrong.0) (inr wrong)
 
 pub take-fault : (file : List ℕ) (fault : ScriptFault) → IsFault file fault → IsFault (take 100663297 file) fault
 take-fault file fault (inl long) = let count = length-take 100663297 file in let large = long.0 in inl (omega arith, long.1)
-take-fault file fault (inr wrong) = subst (λ (f : List ℕ). IsFault f fault) (sym (whole_front file wrong.0)) (inr wrong)
+take-fault file fault (inr wrong) = subst (λ (f : List ℕ). IsFault f fault) (sym (whole_prefix file wrong.0)) (inr wrong)

@@ -51,7 +51,7 @@ pub record OpensFont (b : Before) (block : List (List ℕ)) : Type 0 where
   pub counted : AreIn font_fields (length b.said.assets.fonts, (height, tt))
   pub body : List (List ℕ)
   pub place : FontPlace
-  pub are : fonts.IsFront height body place
+  pub are : fonts.IsPrefix height body place
   pub open_ : place ≡ font_place.After → ⊥
   pub spelled : block ≡ font_text (length b.said.assets.fonts) height ∷ body
 
@@ -62,7 +62,7 @@ pub record OpensBitmap (b : Before) (block : List (List ℕ)) : Type 0 where
   pub counted : AreIn bitmap_fields (length b.said.assets.bitmaps, (width, (height, tt)))
   pub body : List (List ℕ)
   pub place : BitmapPlace
-  pub are : bitmaps.IsFront width height body place
+  pub are : bitmaps.IsPrefix width height body place
   pub open_ : place ≡ bitmap_place.AfterEnd → ⊥
   pub spelled : block ≡ bitmap_text (length b.said.assets.bitmaps) width height ∷ body
 
@@ -71,13 +71,13 @@ OpensDrawing b block = OpensFont b block ⊎ OpensBitmap b block
 
 -- whole items, and then the first lines of a block that may be opened there
 pub record AreOpen (Opens : Before → List (List ℕ) → Type 0) (lines : List (List ℕ)) : Type 0 where
-  pub front : List (List ℕ)
+  pub prefix : List (List ℕ)
   pub before : Before
-  pub whole : AreWhole front before
+  pub whole : AreWhole prefix before
   pub early : IsEarly before
   pub block : List (List ℕ)
   pub opens : Opens before block
-  pub spelled : lines ≡ front ++ block
+  pub spelled : lines ≡ prefix ++ block
 
 abbrev pub StandsAt : List (List ℕ) → Place → Type 0
 StandsAt lines (Between b) = AreWhole lines b
@@ -85,8 +85,9 @@ StandsAt lines InClass = AreOpen OpensClass lines
 StandsAt lines InDrawing = AreOpen OpensDrawing lines
 
 -- the lines are the first ones of a script, and after them stands this place
-abbrev pub IsFront : List (List ℕ) → Place → Type 0
-IsFront lines place = AllByRecursion (λ line. is_printable line ≡ true) lines × StandsAt lines place
+abbrev pub IsPrefix : List (List ℕ) → Place → Type 0
+IsPrefix lines place =
+    AllByRecursion (λ line. is_printable line ≡ true) lines × StandsAt lines place
 
 -- ---- forms that aren't built
 
@@ -119,7 +120,7 @@ IsBarred locks text =
 abbrev pub opens_asset : List ℕ → Bool
 opens_asset line = begins_with_one_of asset_words (words_of line)
 
--- The reason may be held against a line that makes no longer front. So the line is known not to be
+-- The reason may be held against a line that makes no longer prefix. So the line is known not to be
 -- the one that belongs at its place.
 abbrev pub HoldsBetween : Before → List ℕ → Reason → Type 0
 HoldsBetween b line reason.Header = b.header < 4
@@ -180,7 +181,7 @@ abbrev pub IsFault : List ℕ → ScriptFault → Type 0
 IsFault file fault =
     (IsTooLarge file × (fault ≡ record { line = 0; why = reason.TooLarge }))
     ⊎ ((length file ≤ 100663296)
-    × IsFirstFault IsFront Why why_cut (lines_of file) fault.line fault.why)
+    × IsFirstFault IsPrefix Why why_cut (lines_of file) fault.line fault.why)
 
 -- an error of reading is the file's fault; without memory nothing is said
 abbrev pub IsError : List ℕ → ScriptRefused → Type 0

@@ -20,7 +20,7 @@ pub fn faults_are_first()
 
 /// Does nothing. The first bytes of a file, one more than a script may have, say what the file
 /// says.
-pub fn front_says_all()
+pub fn prefix_says_all()
     ensures script { (file : List ℕ) (s : Script) → IsScript (take 100663297 file) s
         ↔ IsScript file s }
     ensures fault { (file : List ℕ) (fault : ScriptFault) → IsFault (take 100663297 file) fault

@@ -12,8 +12,8 @@ pub fn is_fault(alloc: Global, text: &[u8], line: u32, why: Reason) -> bool {
 }
 
 /// Whether this is the first fault of a text that begins so.
-pub fn is_fault_after(alloc: Global, front: &str, rest: &str, line: u32, why: Reason) -> bool {
-    match format!(in alloc; "{front}{rest}") {
+pub fn is_fault_after(alloc: Global, prefix: &str, rest: &str, line: u32, why: Reason) -> bool {
+    match format!(in alloc; "{prefix}{rest}") {
         Ok(text) => is_fault(alloc, text.as_bytes(), line, why),
         Err(_) => false,
     }
@@ -73,9 +73,9 @@ const NOT_LATER: &str = "0 begin\n|17 begin\n|01 begin\n|-1 end\n|begin\n|1 Begi
 
 /// The first of the files whose first fault is another one, by its line and the rest of its text.
 pub fn first_other(alloc: Global, files: &[Faulty]) -> Option<(u32, &'static str)> {
-    for (line, why, front, rests) in files {
+    for (line, why, prefix, rests) in files {
         for rest in rests.split('|') {
-            if !is_fault_after(alloc, front, rest, *line, *why) {
+            if !is_fault_after(alloc, prefix, rest, *line, *why) {
                 return Some((*line, rest));
             }
         }

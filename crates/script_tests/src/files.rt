@@ -2,7 +2,7 @@
 
 use outside::{
     FileStore, MemSink, MemStore, NamedFile, ReadRefused, Sink, StdSink, Store, StreamSink,
-    read_front,
+    read_prefix,
 };
 use std::alloc::Global;
 use std::fs;
@@ -19,7 +19,7 @@ fn store(alloc: Global, failing: u64) -> Option<MemStore> {
     Some(MemStore::new(files, Vec::from_slice(alloc, &[failing]).ok()?))
 }
 
-/// Whether the store has this front of a file, or the read fails and its name is kept.
+/// Whether the store has this prefix of a file, or the read fails and its name is kept.
 fn gives<S: Store>(files: &mut S, alloc: Global, name: &str, limit: usize, want: &str) -> bool {
     match files.read(alloc, name, limit) {
         Ok(bytes) => bytes.as_slice() == want.as_bytes(),
@@ -86,8 +86,8 @@ fn a_sink_in_memory_takes_what_fits(rt: HostRuntime) {
     assert!(rt; are_writes_answered(rt.alloc()));
 }
 
-/// Whether a store gives the front of the file of 70,000 times `x`.
-fn gives_front<S: Store>(files: &mut S, alloc: Global, limit: usize, count: usize) -> bool {
+/// Whether a store gives the prefix of the file of 70,000 times `x`.
+fn gives_prefix<S: Store>(files: &mut S, alloc: Global, limit: usize, count: usize) -> bool {
     match files.read(alloc, "long", limit) {
         Ok(bytes) => bytes.len() == count && bytes.iter().all(|b| *b == b'x'),
         Err(_) => false,
@@ -102,7 +102,7 @@ fn files_are_read_from_the_system(rt: HostRuntime) {
     assert!(rt; gives(&mut files, rt.alloc(), "no such file", 3, "fails"));
     for (limit, count) in [(0, 0), (3, 3), (66_000, 66_000), (100_000, 70_000)] {
         assert!(rt;
-            gives_front(&mut files, rt.alloc(), limit, count),
+            gives_prefix(&mut files, rt.alloc(), limit, count),
             "{limit}"
         );
     }
@@ -117,21 +117,21 @@ fn pieces_go_to_the_standard_output(rt: HostRuntime) {
     assert!(rt; out.faults() == 0);
 }
 
-fn is_front(alloc: Global, limit: usize, want: &str) -> bool {
-    match read_front(alloc, b"red green".as_slice(), limit) {
+fn is_prefix(alloc: Global, limit: usize, want: &str) -> bool {
+    match read_prefix(alloc, b"red green".as_slice(), limit) {
         Ok(bytes) => bytes.as_slice() == want.as_bytes(),
         Err(_) => false,
     }
 }
 
 #[test]
-fn the_front_of_a_reader(rt: HostRuntime) {
+fn the_prefix_of_a_reader(rt: HostRuntime) {
     for (limit, want) in [(0, ""), (3, "red"), (9, "red green"), (100, "red green")] {
-        assert!(rt; is_front(rt.alloc(), limit, want), "{limit}");
+        assert!(rt; is_prefix(rt.alloc(), limit, want), "{limit}");
     }
 }
 
-/// Whether a sink that takes five bytes takes `red`, and of `blue` a front.
+/// Whether a sink that takes five bytes takes `red`, and of `blue` a prefix.
 fn takes_five(out: &mut impl Sink) -> bool {
     out.write(b"red").is_ok()
         && out.write(b"").is_ok()
@@ -200,7 +200,7 @@ fn failing(kind: ErrorKind) -> Faulty {
 
 /// Whether a read of four bytes passes over an interruption.
 fn is_interrupted_read_whole(alloc: Global) -> bool {
-    match read_front(alloc, failing(ErrorKind::Interrupted), 4) {
+    match read_prefix(alloc, failing(ErrorKind::Interrupted), 4) {
         Ok(bytes) => bytes.as_slice() == b"xxxx".as_slice(),
         Err(_) => false,
     }
@@ -215,7 +215,7 @@ fn an_interruption_is_no_fault(rt: HostRuntime) {
 
 /// Whether a read of four bytes fails at another error.
 fn is_error_told(alloc: Global) -> bool {
-    match read_front(alloc, failing(ErrorKind::Other), 4) {
+    match read_prefix(alloc, failing(ErrorKind::Other), 4) {
         Ok(_) => false,
         Err(refused) => refused == ReadRefused::Failed,
     }

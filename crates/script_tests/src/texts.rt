@@ -65,7 +65,7 @@ fn a_frame_has_a_line_for_each_row(rt: HostRuntime) {
 }
 
 /// What is written of the striped frame into room for so many bytes where that write fails.
-const FRONTS: [(usize, u64, &str); 8] = [
+const PREFIXES: [(usize, u64, &str); 8] = [
     (100, 0, ""),
     (100, 1, "frame 8 4\n"),
     (100, 2, "frame 8 4\n000000*8\n"),
@@ -84,21 +84,21 @@ const FRONTS: [(usize, u64, &str); 8] = [
     ),
 ];
 
-/// Whether just this front of the striped frame is written, and the fault is counted.
-fn is_front(alloc: Global, most: usize, failing: u64, front: &str) -> bool {
+/// Whether just this prefix of the striped frame is written, and the fault is counted.
+fn is_prefix(alloc: Global, most: usize, failing: u64, prefix: &str) -> bool {
     let Some(frame) = coloured(alloc, 255, &BLUE_POINTS) else {
         return false;
     };
     let Some(mut out) = sink(alloc, most, failing) else {
         return false;
     };
-    write_frame(&mut out, &frame).is_err() && out.bytes() == front.as_bytes() && out.faults() == 1
+    write_frame(&mut out, &frame).is_err() && out.bytes() == prefix.as_bytes() && out.faults() == 1
 }
 
 #[test]
 fn a_frame_stops_where_the_sink_fails(rt: HostRuntime) {
-    for (most, failing, front) in FRONTS {
-        assert!(rt; is_front(rt.alloc(), most, failing, front), "{front}");
+    for (most, failing, prefix) in PREFIXES {
+        assert!(rt; is_prefix(rt.alloc(), most, failing, prefix), "{prefix}");
     }
 }
 
@@ -124,7 +124,7 @@ const TEXT: Call = Call::Text {
 };
 
 /// Calls, what they are answered, and the answer's line.
-const ANSWERS: [(Call, Reply, &str); 22] = [
+const ANSWERS: [(Call, Reply, &str); 23] = [
     (Call::Exec, Reply::Done, "ok\n"),
     (CREATE, Reply::Handle(70_000), "ok 70000\n"),
     (Call::Exec, Reply::Jobs(12), "ok 12\n"),
@@ -205,6 +205,7 @@ const ANSWERS: [(Call, Reply, &str); 22] = [
         Reply::Refused(Refusal::Memory),
         "refused Memory\n",
     ),
+    (Call::Exec, Reply::Refused(Refusal::Full), "refused Full\n"),
     (Call::DevSelect { device: 0 }, Reply::Done, "ok\n"),
     (
         Call::DevDelete { device: 7 },

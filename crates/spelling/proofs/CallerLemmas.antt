@@ -10,4 +10,4 @@ pub use Rattle.spelling.proofs.SpellingLaws.{whole_by_test, natural_whole, numbe
 pub use Rattle.spelling.proofs.CoordinateLaws.{no_number_of, num_takes, num_again, num_whole}
 pub use Rattle.spelling.proofs.FieldLaws.{values_take, values_again, fields_take, fields_again, fields_whole, value_takes, value_again, value_whole, made_taking, words_with, line_values_take, line_values_again, text_same}
 pub use Rattle.spelling.proofs.ItemLaws.{Without, same_block, Begins, AreApart, one_list, comments_more, items_comment, items_more, all_after_more}
-pub use Rattle.spelling.proofs.FirstFaultLaws.{on_ok, run-append, run_on, first_read, run_one, Describes, no_front, read_says, either, one_place, one_fault, not_both, fault_with_more, fault_within, one_first}
+pub use Rattle.spelling.proofs.FirstFaultLaws.{on_ok, run-append, run_on, first_read, run_one, Describes, no_prefix, read_says, either, one_place, one_fault, not_both, fault_with_more, fault_within, one_first}

@@ -77,37 +77,37 @@ offset_again (negsuc n) fits = rw (not_empty 45 (decimal (suc n)), number_again 
 
 -- ---- bases
 
-abbrev IsFront : List ℕ → Base → Type 0
-IsFront word base = ((z : ℤ) → word ++ text_of_offset z ≡ text_from base z) × IsBase base
+abbrev IsPrefix : List ℕ → Base → Type 0
+IsPrefix word base = ((z : ℤ) → word ++ text_of_offset z ≡ text_from base z) × IsBase base
 
-front_is : (word name : List ℕ) (base : Base) → word ≡ name → IsFront name base → IsFront word base
-front_is word name base e is = subst (λ (w : List ℕ). IsFront w base) (sym e) is
+prefix_is : (word name : List ℕ) (base : Base) → word ≡ name → IsPrefix name base → IsPrefix word base
+prefix_is word name base e is = subst (λ (w : List ℕ). IsPrefix w base) (sym e) is
 
-value_front : (b : ℕ) (digits : List ℕ) (i : ℕ) → b ≡ 118 → natural_in 0 15 digits ≡ Some i → IsFront (b ∷ digits) (Value i)
-value_front b digits i e n =
+value_prefix : (b : ℕ) (digits : List ℕ) (i : ℕ) → b ≡ 118 → natural_in 0 15 digits ≡ Some i → IsPrefix (b ∷ digits) (Value i)
+value_prefix b digits i e n =
     let t = natural_in_takes 0 15 digits i n in
     let below : i ≤ 15 = t.2 in
-    front_is (b ∷ digits) (118 ∷ decimal i) (Value i) (ap (λ (c : ℕ). c ∷ digits) e ∙ ap (λ (ds : List ℕ). 118 ∷ ds) t.0) (λ z. refl, omega arith)
+    prefix_is (b ∷ digits) (118 ∷ decimal i) (Value i) (ap (λ (c : ℕ). c ∷ digits) e ∙ ap (λ (ds : List ℕ). 118 ∷ ds) t.0) (λ z. refl, omega arith)
 
-value_takes : (word : List ℕ) (base : Base) → cond (begins_with_v word) (natural_in 0 15 (drop 1 word) >>= λ i. Some (Value i)) None ≡ Some base → IsFront word base
+value_takes : (word : List ℕ) (base : Base) → cond (begins_with_v word) (natural_in 0 15 (drop 1 word) >>= λ i. Some (Value i)) None ≡ Some base → IsPrefix word base
 value_takes [] base e = absurd cc
 value_takes (b ∷ digits) base e =
     elim (chosen (begins_with_v (b ∷ digits)) _ None (Some base) e) [
       | inl value ↦
           let i = bind_some (natural_in 0 15 digits) (λ i. Some (Value i)) base value.1 in
           let first : b ≡ 118 = grind (arith, nat_tests) in
-          subst (λ (x : Base). IsFront (b ∷ digits) x) (same_Some (Value i.0) base i.2) (value_front b digits i.0 first i.1)
+          subst (λ (x : Base). IsPrefix (b ∷ digits) x) (same_Some (Value i.0) base i.2) (value_prefix b digits i.0 first i.1)
       | inr none ↦ absurd (cc none.1)
     ]
 
-base_takes : (word : List ℕ) (base : Base) → base_of word ≡ Some base → IsFront word base
+base_takes : (word : List ℕ) (base : Base) → base_of word ≡ Some base → IsPrefix word base
 unfolding base_of
 base_takes word base e =
     elim (chosen (bytes_eq word (codes "w")) (Some Width) _ (Some base) e) [
-      | inl wide ↦ subst (λ (x : Base). IsFront word x) (same_Some Width base wide.1) (front_is word (codes "w") Width (named _ _ wide.0) (λ z. refl, tt))
+      | inl wide ↦ subst (λ (x : Base). IsPrefix word x) (same_Some Width base wide.1) (prefix_is word (codes "w") Width (named _ _ wide.0) (λ z. refl, tt))
       | inr thin ↦
           elim (chosen (bytes_eq word (codes "h")) (Some Height) _ (Some base) thin.1) [
-            | inl high ↦ subst (λ (x : Base). IsFront word x) (same_Some Height base high.1) (front_is word (codes "h") Height (named _ _ high.0) (λ z. refl, tt))
+            | inl high ↦ subst (λ (x : Base). IsPrefix word x) (same_Some Height base high.1) (prefix_is word (codes "h") Height (named _ _ high.0) (λ z. refl, tt))
             | inr low ↦ value_takes word base low.1
           ]
     ]
@@ -141,27 +141,27 @@ offset_first : (z : ℤ) → position_or_len is_sign (text_of_offset z) ≡ 0
 offset_first (pos n) = plus_first n (eqb n 0)
 offset_first (negsuc n) = refl
 
-front_length : (front : List ℕ) (z : ℤ) → HasNoSign front → position_or_len is_sign (front ++ text_of_offset z) ≡ length front
-front_length [] z none = offset_first z
-front_length (b ∷ front) z none = rw (none.0, front_length front z none.1) (omega arith)
+prefix_length : (prefix : List ℕ) (z : ℤ) → HasNoSign prefix → position_or_len is_sign (prefix ++ text_of_offset z) ≡ length prefix
+prefix_length [] z none = offset_first z
+prefix_length (b ∷ prefix) z none = rw (none.0, prefix_length prefix z none.1) (omega arith)
 
 -- a place in a text or its end
 place_or_end : (k n : ℕ) (b : Bool) → ltb k n ≡ b → k ≤ n → unwrap_or (cond b (Some k) None) n ≡ k
 place_or_end k n true test within = refl
 place_or_end k n false test within = grind (arith, nat_tests)
 
-front_end : (front : List ℕ) (z : ℤ) → HasNoSign front → base_length (front ++ text_of_offset z) ≡ length front
+prefix_end : (prefix : List ℕ) (z : ℤ) → HasNoSign prefix → base_length (prefix ++ text_of_offset z) ≡ length prefix
 unfolding base_length
-front_end front z none =
-    let k = front_length front z none in
-    let n = length (front ++ text_of_offset z) in
-    rw k (place_or_end (length front) n (ltb (length front) n) refl (omega (arith, length-append front (text_of_offset z))))
+prefix_end prefix z none =
+    let k = prefix_length prefix z none in
+    let n = length (prefix ++ text_of_offset z) in
+    rw k (place_or_end (length prefix) n (ltb (length prefix) n) refl (omega (arith, length-append prefix (text_of_offset z))))
 
-based_again : (front : List ℕ) (base : Base) (z : ℤ) → HasNoSign front → base_of front ≡ Some base → FitsSigned w16 z → based_num_of (front ++ text_of_offset z) ≡ Some (record { base = base; plus = z })
+based_again : (prefix : List ℕ) (base : Base) (z : ℤ) → HasNoSign prefix → base_of prefix ≡ Some base → FitsSigned w16 z → based_num_of (prefix ++ text_of_offset z) ≡ Some (record { base = base; plus = z })
 unfolding based_num_of
-based_again front base z none is fits =
-    let end = front_end front z none in
-    rw (end, take-append_seam front (text_of_offset z), drop-append_seam front (text_of_offset z), is, offset_again z fits) refl
+based_again prefix base z none is fits =
+    let end = prefix_end prefix z none in
+    rw (end, take-append_seam prefix (text_of_offset z), drop-append_seam prefix (text_of_offset z), is, offset_again z fits) refl
 
 -- ---- coordinates
 
@@ -186,10 +186,10 @@ based_takes word num e =
     let k = base_length word in
     let base = bind_some (base_of (take k word)) _ num e in
     let plus = bind_some (offset_of (drop k word)) _ num base.2 in
-    let front = base_takes (take k word) base.0 base.1 in
+    let prefix = base_takes (take k word) base.0 base.1 in
     let back = offset_takes (drop k word) plus.0 plus.1 in
     subst (λ (n : Num). (word ≡ text_of_num n) × NumFits n) (same_Some (record { base = base.0; plus = plus.0 }) num plus.2)
-    (sym (take-append-drop k word) ∙ ap (λ (w : List ℕ). take k word ++ w) back.0 ∙ front.0 plus.0, (back.1, front.1))
+    (sym (take-append-drop k word) ∙ ap (λ (w : List ℕ). take k word ++ w) back.0 ∙ prefix.0 plus.0, (back.1, prefix.1))
 
 num_or_takes : (word : List ℕ) (o : Option ℤ) (num : Num) → number_of word ≡ o → num_or o (based_num_of word) ≡ Some num → (word ≡ text_of_num num) × NumFits num
 num_or_takes word None num is e = based_takes word num e
@@ -201,9 +201,9 @@ pub num_takes : (word : List ℕ) (num : Num) → num_of word ≡ Some num → (
 unfolding num_of
 num_takes word num e = num_or_takes word (number_of word) num refl e
 
-from_again : (front : List ℕ) (base : Base) (z : ℤ) → 57 < get_or (front ++ text_of_offset z) 0 0 → HasNoSign front → base_of front ≡ Some base → FitsSigned w16 z → num_of (front ++ text_of_offset z) ≡ Some (record { base = base; plus = z })
+from_again : (prefix : List ℕ) (base : Base) (z : ℤ) → 57 < get_or (prefix ++ text_of_offset z) 0 0 → HasNoSign prefix → base_of prefix ≡ Some base → FitsSigned w16 z → num_of (prefix ++ text_of_offset z) ≡ Some (record { base = base; plus = z })
 unfolding num_of
-from_again front base z letter none is fits = rw (no_number_of (front ++ text_of_offset z) letter, based_again front base z none is fits) refl
+from_again prefix base z letter none is fits = rw (no_number_of (prefix ++ text_of_offset z) letter, based_again prefix base z none is fits) refl
 
 plain_again : (z : ℤ) → FitsSigned w16 z → num_of (signed_decimal z) ≡ Some (record { base = Zero; plus = z })
 unfolding num_of
@@ -234,9 +234,9 @@ num_at_again num rest fits = ap (λ (o : Option Num). o >>= λ n. Some (n, rest)
 
 -- ---- no space stands in a coordinate
 
-whole_more : (front back : List ℕ) → IsWhole 32 front → IsWhole 32 back → IsWhole 32 (front ++ back)
+whole_more : (prefix back : List ℕ) → IsWhole 32 prefix → IsWhole 32 back → IsWhole 32 (prefix ++ back)
 whole_more [] back one two = two
-whole_more (b ∷ front) back one two = (one.0, whole_more front back one.1 two)
+whole_more (b ∷ prefix) back one two = (one.0, whole_more prefix back one.1 two)
 
 plus_whole : (n : ℕ) (b : Bool) → n < 32768 → IsWhole 32 (cond b [] (codes "+" ++ decimal n))
 plus_whole n true small = tt

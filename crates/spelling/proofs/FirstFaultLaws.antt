@@ -37,7 +37,7 @@ run_one {D} {R} step d e xs line is = run_on step d e xs (line ∷ []) is ∙ sa
 
 -- ---- two ways to part the same lines
 
--- at the same line, or the second front is longer, or the first
+-- at the same line, or the second prefix is longer, or the first
 data Lie (xs ys cs bs : List (List ℕ)) : Type 0 where
   together : xs ≡ cs → ys ≡ bs → Lie xs ys cs bs
   before : (line : List ℕ) (more : List (List ℕ)) → cs ≡ xs ++ line ∷ more → ys ≡ line ∷ more ++ bs → Lie xs ys cs bs
@@ -61,45 +61,45 @@ lie (x ∷ xs) ys (a ∷ cs) bs e =
 
 -- Reading gave what the lines say, or their first fault.
 abbrev pub Describes : {D P R : Type 0} → (D → List ℕ → Result D R) → D → (D → P) → (List (List ℕ) → P → Type 0) → (P → List ℕ → R → Type 0) → (P → Option R) → List (List ℕ) → Result D (ℕ × R) → Type 0
-Describes step start view Front Why at_end lines (Ok d) = (run step start lines ≡ Ok d) × (at_end (view d) ≡ None)
-Describes step start view Front Why at_end lines (Err fault) = IsFirstFault Front Why at_end lines fault.0 fault.1
+Describes step start view Prefix Why at_end lines (Ok d) = (run step start lines ≡ Ok d) × (at_end (view d) ≡ None)
+Describes step start view Prefix Why at_end lines (Err fault) = IsFirstFault Prefix Why at_end lines fault.0 fault.1
 
-module _ {D P R : Type 0} (step : D → List ℕ → Result D R) (start : D) (view : D → P) (Front : List (List ℕ) → P → Type 0) (Why : P → List ℕ → R → Type 0) (at_end : P → Option R) (reading : IsReading step start view Front Why) where
+module _ {D P R : Type 0} (step : D → List ℕ → Result D R) (start : D) (view : D → P) (Prefix : List (List ℕ) → P → Type 0) (Why : P → List ℕ → R → Type 0) (at_end : P → Option R) (reading : IsReading step start view Prefix Why) where
   abbrev Says : List (List ℕ) → Result D (ℕ × R) → Type 0
-  Says = Describes step start view Front Why at_end
+  Says = Describes step start view Prefix Why at_end
 
   abbrev Fault : List (List ℕ) → ℕ → R → Type 0
-  Fault = IsFirstFault Front Why at_end
+  Fault = IsFirstFault Prefix Why at_end
 
   -- so far all lines were taken
-  record SoFar (lines front rest : List (List ℕ)) (n : ℕ) (d : D) : Type 0 where
-    parts : lines ≡ front ++ rest
-    counted : n ≡ length front + 1
-    read : run step start front ≡ Ok d
+  record SoFar (lines prefix rest : List (List ℕ)) (n : ℕ) (d : D) : Type 0 where
+    parts : lines ≡ prefix ++ rest
+    counted : n ≡ length prefix + 1
+    read : run step start prefix ≡ Ok d
 
-  ends : (lines front : List (List ℕ)) (n : ℕ) (d : D) (o : Option R) → at_end (view d) ≡ o → SoFar lines front [] n d → Says lines (ended n o d)
-  ends lines front n d None is so = (ap (run step start) (so.parts ∙ append-nil front) ∙ so.read, is)
-  ends lines front n d (Some reason) is so = record { front = front; rest = []; place = view d; parts = so.parts; counted = so.counted; right = reading.sound front d so.read; wrong = is }
+  ends : (lines prefix : List (List ℕ)) (n : ℕ) (d : D) (o : Option R) → at_end (view d) ≡ o → SoFar lines prefix [] n d → Says lines (ended n o d)
+  ends lines prefix n d None is so = (ap (run step start) (so.parts ∙ append-nil prefix) ∙ so.read, is)
+  ends lines prefix n d (Some reason) is so = record { prefix = prefix; rest = []; place = view d; parts = so.parts; counted = so.counted; right = reading.sound prefix d so.read; wrong = is }
 
-  -- a line that the step doesn't take makes no longer front
-  pub no_front : (front : List (List ℕ)) (d : D) (line : List ℕ) (reason : R) → run step start front ≡ Ok d → step d line ≡ Err reason → (other : P) → Front (front ++ line ∷ []) other → ⊥
-  no_front front d line reason read is other longer =
-      let r = reading.complete (front ++ line ∷ []) other longer in
-      let stuck : step d line ≡ Ok r.0 = sym (run_one step start d front line read) ∙ r.1 in
+  -- a line that the step doesn't take makes no longer prefix
+  pub no_prefix : (prefix : List (List ℕ)) (d : D) (line : List ℕ) (reason : R) → run step start prefix ≡ Ok d → step d line ≡ Err reason → (other : P) → Prefix (prefix ++ line ∷ []) other → ⊥
+  no_prefix prefix d line reason read is other longer =
+      let r = reading.complete (prefix ++ line ∷ []) other longer in
+      let stuck : step d line ≡ Ok r.0 = sym (run_one step start d prefix line read) ∙ r.1 in
       absurd (cc (sym is ∙ stuck))
 
-  goes_on : (lines front : List (List ℕ)) (line : List ℕ) (rest : List (List ℕ)) (n : ℕ) (d : D) (r : Result D R) (next : D → Result D (ℕ × R)) → step d line ≡ r → SoFar lines front (line ∷ rest) n d
-      → ((e : D) → SoFar lines (front ++ line ∷ []) rest (n + 1) e → Says lines (next e)) → Says lines (on_line n r next)
-  goes_on lines front line rest n d (Err reason) next is so then =
-      record { front = front; rest = line ∷ rest; place = view d; parts = so.parts; counted = so.counted; right = reading.sound front d so.read; wrong = (no_front front d line reason so.read is, reading.reasons front d line reason so.read is) }
-  goes_on lines front line rest n d (Ok e) next is so then =
-      let counted : n ≡ length front + 1 = so.counted in
-      then e (record { parts = so.parts ∙ sym (append_assoc front (line ∷ []) rest); counted = omega (arith, length-append front (line ∷ [])); read = run_one step start d front line so.read ∙ is })
+  goes_on : (lines prefix : List (List ℕ)) (line : List ℕ) (rest : List (List ℕ)) (n : ℕ) (d : D) (r : Result D R) (next : D → Result D (ℕ × R)) → step d line ≡ r → SoFar lines prefix (line ∷ rest) n d
+      → ((e : D) → SoFar lines (prefix ++ line ∷ []) rest (n + 1) e → Says lines (next e)) → Says lines (on_line n r next)
+  goes_on lines prefix line rest n d (Err reason) next is so then =
+      record { prefix = prefix; rest = line ∷ rest; place = view d; parts = so.parts; counted = so.counted; right = reading.sound prefix d so.read; wrong = (no_prefix prefix d line reason so.read is, reading.reasons prefix d line reason so.read is) }
+  goes_on lines prefix line rest n d (Ok e) next is so then =
+      let counted : n ≡ length prefix + 1 = so.counted in
+      then e (record { parts = so.parts ∙ sym (append_assoc prefix (line ∷ []) rest); counted = omega (arith, length-append prefix (line ∷ [])); read = run_one step start d prefix line so.read ∙ is })
 
-  reads : (lines front rest : List (List ℕ)) (n : ℕ) (d : D) → SoFar lines front rest n d → Says lines (read_from step (λ e. at_end (view e)) n d rest)
-  reads lines front [] n d so = ends lines front n d (at_end (view d)) refl so
-  reads lines front (line ∷ rest) n d so =
-      goes_on lines front line rest n d (step d line) (λ e. read_from step (λ e. at_end (view e)) (n + 1) e rest) refl so (λ e more. reads lines (front ++ line ∷ []) rest (n + 1) e more)
+  reads : (lines prefix rest : List (List ℕ)) (n : ℕ) (d : D) → SoFar lines prefix rest n d → Says lines (read_from step (λ e. at_end (view e)) n d rest)
+  reads lines prefix [] n d so = ends lines prefix n d (at_end (view d)) refl so
+  reads lines prefix (line ∷ rest) n d so =
+      goes_on lines prefix line rest n d (step d line) (λ e. read_from step (λ e. at_end (view e)) (n + 1) e rest) refl so (λ e more. reads lines (prefix ++ line ∷ []) rest (n + 1) e more)
 
   pub read_says : (lines : List (List ℕ)) → Says lines (read_from step (λ e. at_end (view e)) 1 start lines)
   read_says lines = reads lines [] lines 1 start (record { parts = refl; counted = refl; read = refl })
@@ -113,101 +113,101 @@ module _ {D P R : Type 0} (step : D → List ℕ → Result D R) (start : D) (vi
   pub either : (lines : List (List ℕ)) → ((d : D) × (run step start lines ≡ Ok d) × (at_end (view d) ≡ None)) ⊎ ((line : ℕ) × (reason : R) × Fault lines line reason)
   either lines = either_of lines _ (read_says lines)
 
-  -- one place stands after a front
-  pub one_place : (lines : List (List ℕ)) (p q : P) → Front lines p → Front lines q → p ≡ q
+  -- one place stands after a prefix
+  pub one_place : (lines : List (List ℕ)) (p q : P) → Prefix lines p → Prefix lines q → p ≡ q
   one_place lines p q is also =
       let r = reading.complete lines p is in
       let s = reading.complete lines q also in
       let same : r.0 ≡ s.0 = cc (sym r.1 ∙ s.1) in
       sym r.2 ∙ ap view same ∙ s.2
 
-  -- the first lines of a front are a front
-  shorter : (xs ys : List (List ℕ)) (p : P) → Front (xs ++ ys) p → (q : P) × Front xs q
+  -- the first lines of a prefix are a prefix
+  shorter : (xs ys : List (List ℕ)) (p : P) → Prefix (xs ++ ys) p → (q : P) × Prefix xs q
   shorter xs ys p is =
       let r = reading.complete (xs ++ ys) p is in
       let f = first_read step start r.0 xs ys r.1 in
       (view f.0, reading.sound xs f.0 f.1)
 
-  -- a fault stands right after the longest front
-  longest : (front : List (List ℕ)) (place : P) (rest more later : List (List ℕ)) (line : List ℕ) (reason : R) (p : P) → IsAgainst Front Why at_end front place rest reason → rest ≡ line ∷ more ++ later → Front (front ++ line ∷ more) p → ⊥
-  longest front place [] more later line reason p wrong e is = absurd cc
-  longest front place (next ∷ rest) more later line reason p wrong e is =
+  -- a fault stands right after the longest prefix
+  longest : (prefix : List (List ℕ)) (place : P) (rest more later : List (List ℕ)) (line : List ℕ) (reason : R) (p : P) → IsAgainst Prefix Why at_end prefix place rest reason → rest ≡ line ∷ more ++ later → Prefix (prefix ++ line ∷ more) p → ⊥
+  longest prefix place [] more later line reason p wrong e is = absurd cc
+  longest prefix place (next ∷ rest) more later line reason p wrong e is =
       let same : line ≡ next = cc in
-      let q = shorter (front ++ line ∷ []) more p (subst (λ (ls : List (List ℕ)). Front ls p) (sym (append_assoc front (line ∷ []) more)) is) in
-      wrong.0 q.0 (subst (λ (l : List ℕ). Front (front ++ l ∷ []) q.0) same q.1)
+      let q = shorter (prefix ++ line ∷ []) more p (subst (λ (ls : List (List ℕ)). Prefix ls p) (sym (append_assoc prefix (line ∷ []) more)) is) in
+      wrong.0 q.0 (subst (λ (l : List ℕ). Prefix (prefix ++ l ∷ []) q.0) same q.1)
 
-  -- ---- how two fronts of the same lines lie
+  -- ---- how two prefixes of the same lines lie
 
-  same_against : (front : List (List ℕ)) (p q : P) (rest : List (List ℕ)) (r s : R) → p ≡ q → Front front p → IsAgainst Front Why at_end front p rest r → IsAgainst Front Why at_end front q rest s → r ≡ s
-  same_against front p q [] r s same right is also = let e : Some r ≡ Some s = sym is ∙ ap at_end same ∙ also in cc
-  same_against front p q (line ∷ rest) r s same right is also = reading.one_reason front p line r s right is.0 is.1 (subst (λ (x : P). Why x line s) (sym same) also.1)
+  same_against : (prefix : List (List ℕ)) (p q : P) (rest : List (List ℕ)) (r s : R) → p ≡ q → Prefix prefix p → IsAgainst Prefix Why at_end prefix p rest r → IsAgainst Prefix Why at_end prefix q rest s → r ≡ s
+  same_against prefix p q [] r s same right is also = let e : Some r ≡ Some s = sym is ∙ ap at_end same ∙ also in cc
+  same_against prefix p q (line ∷ rest) r s same right is also = reading.one_reason prefix p line r s right is.0 is.1 (subst (λ (x : P). Why x line s) (sym same) also.1)
 
   pub one_fault : (lines : List (List ℕ)) (m n : ℕ) (r s : R) → Fault lines m r → Fault lines n s → (m ≡ n) × (r ≡ s)
   one_fault lines m n r s is also =
-      elim (lie is.front is.rest also.front also.rest (sym is.parts ∙ also.parts)) [
+      elim (lie is.prefix is.rest also.prefix also.rest (sym is.parts ∙ also.parts)) [
         | together f g ↦
-            let place : is.place ≡ also.place = one_place is.front is.place also.place is.right (subst (λ (ls : List (List ℕ)). Front ls also.place) (sym f) also.right) in
-            (is.counted ∙ ap (λ (ls : List (List ℕ)). length ls + 1) f ∙ sym also.counted, same_against is.front is.place also.place is.rest r s place is.right is.wrong (subst (λ (ls : List (List ℕ)). IsAgainst Front Why at_end is.front also.place ls s) (sym g) (subst (λ (ls : List (List ℕ)). IsAgainst Front Why at_end ls also.place also.rest s) (sym f) also.wrong)))
-        | before line more f g ↦ absurd (longest is.front is.place is.rest more also.rest line r also.place is.wrong g (subst (λ (ls : List (List ℕ)). Front ls also.place) f also.right))
-        | after line more f g ↦ absurd (longest also.front also.place also.rest more is.rest line s is.place also.wrong g (subst (λ (ls : List (List ℕ)). Front ls is.place) f is.right))
+            let place : is.place ≡ also.place = one_place is.prefix is.place also.place is.right (subst (λ (ls : List (List ℕ)). Prefix ls also.place) (sym f) also.right) in
+            (is.counted ∙ ap (λ (ls : List (List ℕ)). length ls + 1) f ∙ sym also.counted, same_against is.prefix is.place also.place is.rest r s place is.right is.wrong (subst (λ (ls : List (List ℕ)). IsAgainst Prefix Why at_end is.prefix also.place ls s) (sym g) (subst (λ (ls : List (List ℕ)). IsAgainst Prefix Why at_end ls also.place also.rest s) (sym f) also.wrong)))
+        | before line more f g ↦ absurd (longest is.prefix is.place is.rest more also.rest line r also.place is.wrong g (subst (λ (ls : List (List ℕ)). Prefix ls also.place) f also.right))
+        | after line more f g ↦ absurd (longest also.prefix also.place also.rest more is.rest line s is.place also.wrong g (subst (λ (ls : List (List ℕ)). Prefix ls is.place) f is.right))
       ]
 
-  against_end : (front : List (List ℕ)) (place : P) (rest : List (List ℕ)) (r : R) → rest ≡ [] → IsAgainst Front Why at_end front place rest r → at_end place ≡ Some r
-  against_end front place [] r none is = is
-  against_end front place (line ∷ rest) r none is = absurd cc
+  against_end : (prefix : List (List ℕ)) (place : P) (rest : List (List ℕ)) (r : R) → rest ≡ [] → IsAgainst Prefix Why at_end prefix place rest r → at_end place ≡ Some r
+  against_end prefix place [] r none is = is
+  against_end prefix place (line ∷ rest) r none is = absurd cc
 
-  pub not_both : (lines : List (List ℕ)) (p : P) (n : ℕ) (r : R) → Front lines p → at_end p ≡ None → Fault lines n r → ⊥
+  pub not_both : (lines : List (List ℕ)) (p : P) (n : ℕ) (r : R) → Prefix lines p → at_end p ≡ None → Fault lines n r → ⊥
   not_both lines p n r whole none is =
-      elim (lie lines [] is.front is.rest (append-nil lines ∙ is.parts)) [
+      elim (lie lines [] is.prefix is.rest (append-nil lines ∙ is.parts)) [
         | together f g ↦
-            let place : p ≡ is.place = one_place lines p is.place whole (subst (λ (ls : List (List ℕ)). Front ls is.place) (sym f) is.right) in
-            let ends = against_end is.front is.place is.rest r (sym g) is.wrong in
+            let place : p ≡ is.place = one_place lines p is.place whole (subst (λ (ls : List (List ℕ)). Prefix ls is.place) (sym f) is.right) in
+            let ends = against_end is.prefix is.place is.rest r (sym g) is.wrong in
             absurd (cc (sym none ∙ ap at_end place ∙ ends))
         | before line more f g ↦ absurd (cc g)
-        | after line more f g ↦ longest is.front is.place is.rest more [] line r p is.wrong g (subst (λ (ls : List (List ℕ)). Front ls p) f whole)
+        | after line more f g ↦ longest is.prefix is.place is.rest more [] line r p is.wrong g (subst (λ (ls : List (List ℕ)). Prefix ls p) f whole)
       ]
 
 -- ---- lines within a file
 
 -- a fault at a line stays one whatever follows
-line_before : (lines front rest : List (List ℕ)) (n : ℕ) → lines ≡ front ++ rest → n ≡ length front + 1 → n ≤ length lines → 1 ≤ length rest
-line_before lines front rest n parts counted few = omega (arith, length-append front rest, ap length parts)
+line_before : (lines prefix rest : List (List ℕ)) (n : ℕ) → lines ≡ prefix ++ rest → n ≡ length prefix + 1 → n ≤ length lines → 1 ≤ length rest
+line_before lines prefix rest n parts counted few = omega (arith, length-append prefix rest, ap length parts)
 
-against_more : {P R : Type 0} (Front : List (List ℕ) → P → Type 0) (Why : P → List ℕ → R → Type 0) (at_end : P → Option R) (front : List (List ℕ)) (place : P) (rest more : List (List ℕ)) (r : R) → 1 ≤ length rest → IsAgainst Front Why at_end front place rest r → IsAgainst Front Why at_end front place (rest ++ more) r
-against_more Front Why at_end front place [] more r some is = absurd (omega arith)
-against_more Front Why at_end front place (line ∷ rest) more r some is = is
+against_more : {P R : Type 0} (Prefix : List (List ℕ) → P → Type 0) (Why : P → List ℕ → R → Type 0) (at_end : P → Option R) (prefix : List (List ℕ)) (place : P) (rest more : List (List ℕ)) (r : R) → 1 ≤ length rest → IsAgainst Prefix Why at_end prefix place rest r → IsAgainst Prefix Why at_end prefix place (rest ++ more) r
+against_more Prefix Why at_end prefix place [] more r some is = absurd (omega arith)
+against_more Prefix Why at_end prefix place (line ∷ rest) more r some is = is
 
-pub fault_with_more : {P R : Type 0} (Front : List (List ℕ) → P → Type 0) (Why : P → List ℕ → R → Type 0) (at_end : P → Option R) (lines more : List (List ℕ)) (n : ℕ) (r : R) → n ≤ length lines → IsFirstFault Front Why at_end lines n r → IsFirstFault Front Why at_end (lines ++ more) n r
-fault_with_more Front Why at_end lines more n r few is =
+pub fault_with_more : {P R : Type 0} (Prefix : List (List ℕ) → P → Type 0) (Why : P → List ℕ → R → Type 0) (at_end : P → Option R) (lines more : List (List ℕ)) (n : ℕ) (r : R) → n ≤ length lines → IsFirstFault Prefix Why at_end lines n r → IsFirstFault Prefix Why at_end (lines ++ more) n r
+fault_with_more Prefix Why at_end lines more n r few is =
     record {
-      front = is.front;
+      prefix = is.prefix;
       rest = is.rest ++ more;
       place = is.place;
-      parts = ap (λ (ls : List (List ℕ)). ls ++ more) is.parts ∙ append_assoc is.front is.rest more;
+      parts = ap (λ (ls : List (List ℕ)). ls ++ more) is.parts ∙ append_assoc is.prefix is.rest more;
       counted = is.counted;
       right = is.right;
-      wrong = against_more Front Why at_end is.front is.place is.rest more r (line_before lines is.front is.rest n is.parts is.counted few) is.wrong;
+      wrong = against_more Prefix Why at_end is.prefix is.place is.rest more r (line_before lines is.prefix is.rest n is.parts is.counted few) is.wrong;
     }
 
-against_within : {P Q R S : Type 0} (Front : List (List ℕ) → P → Type 0) (Why : P → List ℕ → R → Type 0) (at_end : P → Option R) (Front' : List (List ℕ) → Q → Type 0) (Why' : Q → List ℕ → S → Type 0) (at_end' : Q → Option S) (head : List (List ℕ)) (Open : P → Type 0) (inside : P → Q) (turn : R → S)
-    → IsBlock Front Why at_end Front' Why' at_end' head Open inside turn → (front : List (List ℕ)) (place : P) (rest : List (List ℕ)) (r : R) → Open place → Front front place → IsAgainst Front Why at_end front place rest r → IsAgainst Front' Why' at_end' (head ++ front) (inside place) rest (turn r)
-against_within Front Why at_end Front' Why' at_end' head Open inside turn block front place [] r unended right is = block.ends place r unended is
-against_within {P} {Q} {R} {S} Front Why at_end Front' Why' at_end' head Open inside turn block front place (line ∷ rest) r unended right is =
-    (λ q longer. let o = block.stays front place line q unended right (subst (λ (ls : List (List ℕ)). Front' ls q) (append_assoc head front (line ∷ [])) longer) in is.0 o.0 o.1, block.reasons place line r unended is.1)
+against_within : {P Q R S : Type 0} (Prefix : List (List ℕ) → P → Type 0) (Why : P → List ℕ → R → Type 0) (at_end : P → Option R) (Prefix' : List (List ℕ) → Q → Type 0) (Why' : Q → List ℕ → S → Type 0) (at_end' : Q → Option S) (head : List (List ℕ)) (Open : P → Type 0) (inside : P → Q) (turn : R → S)
+    → IsBlock Prefix Why at_end Prefix' Why' at_end' head Open inside turn → (prefix : List (List ℕ)) (place : P) (rest : List (List ℕ)) (r : R) → Open place → Prefix prefix place → IsAgainst Prefix Why at_end prefix place rest r → IsAgainst Prefix' Why' at_end' (head ++ prefix) (inside place) rest (turn r)
+against_within Prefix Why at_end Prefix' Why' at_end' head Open inside turn block prefix place [] r unended right is = block.ends place r unended is
+against_within {P} {Q} {R} {S} Prefix Why at_end Prefix' Why' at_end' head Open inside turn block prefix place (line ∷ rest) r unended right is =
+    (λ q longer. let o = block.stays prefix place line q unended right (subst (λ (ls : List (List ℕ)). Prefix' ls q) (append_assoc head prefix (line ∷ [])) longer) in is.0 o.0 o.1, block.reasons place line r unended is.1)
 
 -- the fault of a block that begins after k lines of a file is the file's, k lines on
-pub fault_within : {P Q R S : Type 0} (Front : List (List ℕ) → P → Type 0) (Why : P → List ℕ → R → Type 0) (at_end : P → Option R) (Front' : List (List ℕ) → Q → Type 0) (Why' : Q → List ℕ → S → Type 0) (at_end' : Q → Option S) (head : List (List ℕ)) (Open : P → Type 0) (inside : P → Q) (turn : R → S)
-    → IsBlock Front Why at_end Front' Why' at_end' head Open inside turn → (lines : List (List ℕ)) (n : ℕ) (r : R) (fault : IsFirstFault Front Why at_end lines n r) → Open fault.place → IsFirstFault Front' Why' at_end' (head ++ lines) (length head + n) (turn r)
-fault_within Front Why at_end Front' Why' at_end' head Open inside turn block lines n r fault unended =
-    let counted : n ≡ length fault.front + 1 = fault.counted in
+pub fault_within : {P Q R S : Type 0} (Prefix : List (List ℕ) → P → Type 0) (Why : P → List ℕ → R → Type 0) (at_end : P → Option R) (Prefix' : List (List ℕ) → Q → Type 0) (Why' : Q → List ℕ → S → Type 0) (at_end' : Q → Option S) (head : List (List ℕ)) (Open : P → Type 0) (inside : P → Q) (turn : R → S)
+    → IsBlock Prefix Why at_end Prefix' Why' at_end' head Open inside turn → (lines : List (List ℕ)) (n : ℕ) (r : R) (fault : IsFirstFault Prefix Why at_end lines n r) → Open fault.place → IsFirstFault Prefix' Why' at_end' (head ++ lines) (length head + n) (turn r)
+fault_within Prefix Why at_end Prefix' Why' at_end' head Open inside turn block lines n r fault unended =
+    let counted : n ≡ length fault.prefix + 1 = fault.counted in
     record {
-      front = head ++ fault.front;
+      prefix = head ++ fault.prefix;
       rest = fault.rest;
       place = inside fault.place;
-      parts = ap (λ (ls : List (List ℕ)). head ++ ls) fault.parts ∙ sym (append_assoc head fault.front fault.rest);
-      counted = omega (arith, length-append head fault.front);
-      right = block.begins fault.front fault.place fault.right;
-      wrong = against_within Front Why at_end Front' Why' at_end' head Open inside turn block fault.front fault.place fault.rest r unended fault.right fault.wrong;
+      parts = ap (λ (ls : List (List ℕ)). head ++ ls) fault.parts ∙ sym (append_assoc head fault.prefix fault.rest);
+      counted = omega (arith, length-append head fault.prefix);
+      right = block.begins fault.prefix fault.place fault.right;
+      wrong = against_within Prefix Why at_end Prefix' Why' at_end' head Open inside turn block fault.prefix fault.place fault.rest r unended fault.right fault.wrong;
     }
 
 -- ---- the first reason

@@ -154,9 +154,9 @@ byte_takes high low b e =
     let b-is : h.0 * 16 + l.0 ≡ b = same_Some (h.0 * 16 + l.0) b l.2 in
     let first = digit_takes high h.0 h.1 in
     let second = digit_takes low l.0 l.1 in
-    let front : h.0 ≡ b / 16 = omega (arith, first.1, second.1) in
+    let prefix : h.0 ≡ b / 16 = omega (arith, first.1, second.1) in
     let back : l.0 ≡ b % 16 = omega (arith, first.1, second.1) in
-    (ap (λ (x : ℕ). x ∷ low ∷ []) (first.0 ∙ ap hex_digit front) ∙ ap (λ (x : ℕ). hex_digit (b / 16) ∷ x ∷ []) (second.0 ∙ ap hex_digit back), omega (arith, first.1, second.1))
+    (ap (λ (x : ℕ). x ∷ low ∷ []) (first.0 ∙ ap hex_digit prefix) ∙ ap (λ (x : ℕ). hex_digit (b / 16) ∷ x ∷ []) (second.0 ∙ ap hex_digit back), omega (arith, first.1, second.1))
 
 byte_again : (b : ℕ) → b < 256 → hex_byte_of (hex_digit (b / 16)) (hex_digit (b % 16)) ≡ Some b
 unfolding hex_byte_of

@@ -28,16 +28,16 @@ read_from step close n d [] = ended n (close d) d
 read_from step close n d (line ∷ lines) =
     on_line n (step d line) (λ next. read_from step close (n + 1) next lines)
 
--- The step reads the fronts: what it says after lines stands after them, as view has it, and its
+-- The step reads the prefixes: what it says after lines stands after them, as view has it, and its
 -- reasons are those of Why, of which one holds.
 pub record IsReading {D P R : Type 0} (step : D → List ℕ → Result D R) (start : D) (view : D → P)
-    (Front : List (List ℕ) → P → Type 0) (Why : P → List ℕ → R → Type 0) : Type 0 where
+    (Prefix : List (List ℕ) → P → Type 0) (Why : P → List ℕ → R → Type 0) : Type 0 where
   pub sound : (lines : List (List ℕ)) (d : D) → run step start lines ≡ Ok d
-      → Front lines (view d)
-  pub complete : (lines : List (List ℕ)) (place : P) → Front lines place
+      → Prefix lines (view d)
+  pub complete : (lines : List (List ℕ)) (place : P) → Prefix lines place
       → (d : D) × (run step start lines ≡ Ok d) × (view d ≡ place)
   pub reasons : (lines : List (List ℕ)) (d : D) (line : List ℕ) (reason : R)
       → run step start lines ≡ Ok d → step d line ≡ Err reason → Why (view d) line reason
   pub one_reason : (lines : List (List ℕ)) (place : P) (line : List ℕ) (r s : R)
-      → Front lines place → ((other : P) → Front (lines ++ line ∷ []) other → ⊥)
+      → Prefix lines place → ((other : P) → Prefix (lines ++ line ∷ []) other → ⊥)
       → Why place line r → Why place line s → r ≡ s

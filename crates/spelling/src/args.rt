@@ -9,7 +9,7 @@ use crate::{hex, num, words};
 use gfx_base::{Colour, Num};
 
 /// The words of a line that are left. Each call takes the next one, where it is a field of its
-/// kind; where it isn't, it answers None and takes none.
+/// kind; where it isn't, it answers None, and nothing is said of the words that are left then.
 #[derive(Drop)]
 pub struct Args<'l> {
     pub rest: Option<&'l [u8]>,

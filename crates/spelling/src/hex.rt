@@ -1,12 +1,13 @@
-//! Words that spell colours.
+//! Words that spell colours, and the digits of a colour.
 
 ghost use Rattle.std.specs.Prelude.{◌≡◌, ◌<◌, IfSome};
+ghost use Rattle.spelling.specs.Digits.{hex_digit, hex_colour};
 ghost use Rattle.spelling.specs.Words.{hex_digit_of, hex_byte_of, colour_of};
 
 use gfx_base::Colour;
 
 #[tactic(auto, unfolding(crate::specs::Words::hex_digit_of))]
-fn hex_digit(byte: u8) -> Option<u8>
+fn digit_value(byte: u8) -> Option<u8>
     ensures value { result ≡ hex_digit_of byte }
     ensures small { IfSome result (λ d. d < 16) }
 {
@@ -18,10 +19,10 @@ fn hex_digit(byte: u8) -> Option<u8>
 }
 
 #[tactic(auto, unfolding(crate::specs::Words::hex_byte_of))]
-fn hex_byte(high: u8, low: u8) -> Option<u8>
+fn byte_value(high: u8, low: u8) -> Option<u8>
     ensures { result ≡ hex_byte_of high low }
 {
-    Some(hex_digit(high)? * 16 + hex_digit(low)?)
+    Some(digit_value(high)? * 16 + digit_value(low)?)
 }
 
 /// The colour that a word spells.
@@ -32,8 +33,35 @@ pub fn colour(word: &[u8]) -> Option<Colour>
     let [a, b, c, d, e, f] = word else {
         return None;
     };
-    let red = hex_byte(*a, *b)?;
-    let green = hex_byte(*c, *d)?;
-    let blue = hex_byte(*e, *f)?;
+    let red = byte_value(*a, *b)?;
+    let green = byte_value(*c, *d)?;
+    let blue = byte_value(*e, *f)?;
     Colour::new(u32::from(red) * 65536 + u32::from(green) * 256 + u32::from(blue))
+}
+
+fn digit_of(value: u8) -> u8
+    requires { value < 16 }
+    ensures { result ≡ hex_digit value }
+{
+    if value < 10 {
+        b'0' + value
+    } else {
+        b'A' + (value - 10)
+    }
+}
+
+/// The six digits of a colour: two each of red, green and blue.
+#[tactic(auto, unfolding(crate::specs::Digits::hex_colour))]
+pub fn colour_digits(colour: Colour) -> [u8; 6]
+    ensures { result ≡ hex_colour colour }
+{
+    let [_, red, green, blue] = colour.value().to_be_bytes();
+    [
+        digit_of(red / 16),
+        digit_of(red % 16),
+        digit_of(green / 16),
+        digit_of(green % 16),
+        digit_of(blue / 16),
+        digit_of(blue % 16),
+    ]
 }

@@ -60,10 +60,10 @@ fn base_length(word: &[u8]) -> usize
 fn based_num(word: &[u8]) -> Option<Num>
     ensures { result ≡ based_num_of word.now }
 {
-    let (front, back) = word.split_at(base_length(word));
+    let (start, rest) = word.split_at(base_length(word));
     Some(Num {
-        base: base(front)?,
-        plus: offset(back)?,
+        base: base(start)?,
+        plus: offset(rest)?,
     })
 }
 

@@ -254,7 +254,8 @@ fn copied(alloc: Global, which: usize, x: i16, y: i16, assets: &Assets) -> Optio
     Some(target)
 }
 
-/// The window's place, where the upper left point of the picture `##-|#.-` comes to, and the screen.
+/// The window's place, where the upper left point of the picture `##-|#.-` comes to, and the
+/// screen.
 fn copy_cases() -> [(usize, i16, i16, &'static str); 8] {
     [
         // The windows above hide what lies in them.

@@ -139,9 +139,9 @@ fn tile_of(x: u16, y: u16) -> Tile
     }
 }
 
-/// How many points aren't those that were put down, or what was there before; answered tiles without
-/// a point that was put down and those that aren't answered count too. The frames are the picture,
-/// and the screen before and after.
+/// How many points aren't those that were put down, or what was there before; answered tiles
+/// without a point that was put down and those that aren't answered count too. The frames are the
+/// picture, and the screen before and after.
 fn wrong_points(
     stack: &[Win],
     which: usize,

@@ -58,12 +58,12 @@ fn draw_rows(
     requires shape { HasShape target.old.picture }
     requires area { IsOn target.old.picture.width target.old.picture.height area.now }
     requires few { length holes.now ≤ 255 }
-    ensures { let inputs : Inputs = record { values = values.now; width = width; height = height } in
+    ensures { let given : Inputs = record { values = values.now; width = width; height = height } in
         target.new.picture
         ≡ changed target.old.picture
         (λ x y. is_free area.now holes.now (point_at (pos x) (pos y))
-        && is_some (colour_on_screen assets.now inputs op.now origin x y))
-        (λ x y. unwrap_or (colour_on_screen assets.now inputs op.now origin x y) 0) }
+        && is_some (colour_on_screen assets.now given op.now origin x y))
+        (λ x y. unwrap_or (colour_on_screen assets.now given op.now origin x y) 0) }
 {
     let top = unsigned(area.y0);
     let mut plan = plan_row(area, holes, top);

@@ -45,7 +45,8 @@ fn has_colour(bitmap: &Bitmap, p: Point) -> bool
     bitmap.at(p.x as u16, p.y as u16).is_some()
 }
 
-/// Whether a text's glyphs, side by side, have a set point in the row, at `x` columns from the left.
+/// Whether a text's glyphs, side by side, have a set point in the row, at `x` columns from the
+/// left.
 fn is_in_cells(font: &Font, text: &[u8], x: u32, row: u8) -> bool
     ensures { result ≡ is_in_cells font.now text.now x row }
 {

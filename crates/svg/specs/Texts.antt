@@ -1,20 +1,10 @@
 -- The SVG text of a picture.
-use Rattle.std.specs.Prelude.{ℕ, ◌+◌, ◌/◌, ◌%◌, nat_lt, if◌then◌else◌, List, [], ◌∷◌, ◌++◌, codes, decimal}
+use Rattle.std.specs.Prelude.{ℕ, List, ◌++◌, codes, decimal}
 use Rattle.std.specs.List.{flat_map}
 use Rattle.frame.specs.Pictures.{Picture}
+use Rattle.spelling.specs.Digits.{hex_colour}
 use Rattle.svg.specs.declared.shapes.Rectangle.{Rectangle}
 use Rattle.svg.specs.Rectangles.{rectangles}
-
--- a digit `0` to `9`, then `a` to `f`
-abbrev pub hex_digit : ℕ → ℕ
-hex_digit d = if nat_lt d 10 then 48 + d else 87 + d
-
-abbrev pub hex_byte : ℕ → List ℕ
-hex_byte b = hex_digit (b / 16) ∷ hex_digit (b % 16) ∷ []
-
--- the digits of red, green and blue
-unfoldable pub hex_colour : ℕ → List ℕ
-hex_colour c = hex_byte (c / 65536) ++ hex_byte (c / 256 % 256) ++ hex_byte (c % 256)
 
 unfoldable pub rectangle_text : Rectangle → List ℕ
 rectangle_text r =

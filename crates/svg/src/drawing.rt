@@ -10,7 +10,7 @@ use crate::ending::Ending;
 use crate::fault::Refused;
 use crate::reader::read;
 use crate::writing::write_svg;
-use outside::{ReadRefused, Sink, read_front};
+use outside::{ReadRefused, Sink, read_prefix};
 use std::alloc::Global;
 use std::io::Read;
 
@@ -43,7 +43,7 @@ pub fn draw<F: Read + Drop, K: Sink>(
     let Some(wanted) = choice(words) else {
         return Ending::Usage;
     };
-    match read_front(alloc, input, usize::MAX) {
+    match read_prefix(alloc, input, usize::MAX) {
         Ok(text) => show(alloc, wanted, &text, out),
         Err(ReadRefused::Failed) => Ending::Input,
         Err(ReadRefused::Memory) => Ending::Memory,

@@ -1,12 +1,12 @@
 //! How drawing ends, and what the standard error is told of it.
 
-ghost use Rattle.std.specs.Prelude.{◌≡◌, ◌⊎◌, ◌+◌, ◌≤◌, ◌++◌, length};
+ghost use Rattle.std.specs.Prelude.{◌≡◌, ◌⊎◌, ◌≤◌, length};
 ghost use Rattle.std.specs.Process.{exit_status};
 ghost use Rattle.outside.specs.Logs.{Whole, Broken};
 ghost use Rattle.svg.specs.Endings.{status_of, reason_text, fault_line, plain_line, error_line};
 
 use crate::fault::{Fault, Reason};
-use crate::room::LineRoom;
+use crate::writing::ShortRoom;
 use outside::Sink;
 use std::process::ExitCode;
 
@@ -55,10 +55,10 @@ fn reason_text(why: Reason) -> &'static [u8]
 
 /// The line that tells a fault.
 #[tactic(auto, unfolding(crate::specs::Endings::fault_line))]
-fn fault_line(fault: Fault) -> LineRoom
+fn fault_line(fault: Fault) -> ShortRoom
     ensures { result ≡ fault_line fault }
 {
-    let mut room = LineRoom::new();
+    let mut room = ShortRoom::new();
     room.push_bytes(b"frame-svg: fault ");
     room.push_number(fault.line);
     room.push_bytes(b" ");

@@ -11,7 +11,6 @@ mod image;
 pub mod laws;
 mod process;
 mod reader;
-mod room;
 mod row;
 mod shapes;
 mod writing;

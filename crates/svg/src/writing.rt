@@ -1,53 +1,25 @@
 //! Pictures as SVG texts. Each line is put together in room of the call's own and reaches the sink
 //! in one write.
 
-ghost use Rattle.std.specs.Prelude.{◌≡◌, ◌<◌, ◌≤◌, ◌+◌, ◌++◌, length};
+ghost use Rattle.std.specs.Prelude.{◌<◌};
 ghost use Rattle.std.specs.List.{flat_map};
 ghost use Rattle.outside.specs.Logs.{Wrote};
 ghost use Rattle.svg.specs.Rectangles.{rectangles_at, rectangles_of_row};
-ghost use Rattle.svg.specs.Texts.{hex_digit, hex_byte, hex_colour, rectangle_text, svg_head, svg_text};
+ghost use Rattle.svg.specs.Texts.{rectangle_text, svg_head, svg_text};
 
 use crate::image::Image;
-use crate::room::LineRoom;
 use crate::shapes::{Rectangle, rectangle_at};
-use gfx_base::Colour;
 use outside::{Sink, SinkFault};
+use spelling::LineRoom;
 
-fn hex_digit(value: u8) -> u8
-    requires { value < 16 }
-    ensures { result ≡ hex_digit value }
-{
-    if value < 10 {
-        b'0' + value
-    } else {
-        b'a' + (value - 10)
-    }
-}
-
-fn hex_byte(value: u8) -> [u8; 2]
-    ensures { result ≡ hex_byte value }
-{
-    [hex_digit(value / 16), hex_digit(value % 16)]
-}
-
-/// Pushes a colour's six digits.
-#[tactic(auto, unfolding(crate::specs::Texts::hex_colour))]
-fn push_colour(room: &mut LineRoom, colour: Colour)
-    requires { length room.old + 6 ≤ 256 }
-    ensures line { room.new ≡ room.old ++ hex_colour colour }
-    ensures len { length room.new ≡ length room.old + 6 }
-{
-    let [_, red, green, blue] = colour.value().to_be_bytes();
-    room.push_bytes(&hex_byte(red));
-    room.push_bytes(&hex_byte(green));
-    room.push_bytes(&hex_byte(blue));
-}
+/// Room for one line.
+pub type ShortRoom = LineRoom<256>;
 
 #[tactic(auto, unfolding(crate::specs::Texts::rectangle_text))]
 fn write_rectangle<K: Sink>(out: &mut K, r: &Rectangle) -> Result<(), SinkFault>
     ensures { Wrote result (K.log out.old) (K.log out.new) (rectangle_text r.now) }
 {
-    let mut room = LineRoom::new();
+    let mut room = ShortRoom::new();
     room.push_bytes(b"<rect x=\"");
     room.push_number(r.x);
     room.push_bytes(b"\" y=\"");
@@ -57,7 +29,7 @@ fn write_rectangle<K: Sink>(out: &mut K, r: &Rectangle) -> Result<(), SinkFault>
     room.push_bytes(b"\" height=\"");
     room.push_number(r.height);
     room.push_bytes(b"\" fill=\"#");
-    push_colour(&mut room, r.colour);
+    room.push_colour(r.colour);
     room.push_bytes(b"\"/>\n");
     out.write(room.line())
 }
@@ -66,7 +38,7 @@ fn write_rectangle<K: Sink>(out: &mut K, r: &Rectangle) -> Result<(), SinkFault>
 fn write_head<K: Sink>(out: &mut K, width: usize, height: usize) -> Result<(), SinkFault>
     ensures { Wrote result (K.log out.old) (K.log out.new) (svg_head width height) }
 {
-    let mut room = LineRoom::new();
+    let mut room = ShortRoom::new();
     room.push_bytes(b"<svg xmlns=\"http://www.w3.org/2000/svg\" width=\"");
     room.push_number(width);
     room.push_bytes(b"\" height=\"");
@@ -103,7 +75,7 @@ fn write_row<K: Sink>(out: &mut K, image: &Image, y: usize) -> Result<(), SinkFa
     Ok(())
 }
 
-/// Writes the SVG text of a picture. After a fault of the sink a front of it was written.
+/// Writes the SVG text of a picture. After a fault of the sink a prefix of it was written.
 pub fn write_svg<K: Sink>(out: &mut K, image: &Image) -> Result<(), SinkFault>
     ensures { Wrote result (K.log out.old) (K.log out.new) (svg_text image.now) }
 {

@@ -9,7 +9,6 @@ use scene::Stack;
 use script::{Script, read};
 use std::alloc::Global;
 use std::env;
-use std::marker::Model;
 use std::process::ExitCode;
 
 /// The first class has a bar, adds a message's argument to its value, and hands the message on. One
@@ -24,22 +23,10 @@ const MOST: u32 = 400_000;
 /// The task that makes the calls.
 const TASK: u16 = 1;
 
-/// A core, and for how many calls more it has room.
+/// A core whose calls one task makes.
 #[derive(Drop)]
 struct Session {
     gui: Gui,
-    left: u32,
-}
-
-impl Model for Session {
-    ghost use Rattle.std.specs.Prelude.{◌+◌, ◌≤◌};
-    ghost use Rattle.gui_core.specs.Machines.{Machine};
-
-    ghost Value = { Machine };
-
-    ghost view = { λ s. s.gui };
-
-    ghost invariant = { λ s. s.gui.made + s.left ≤ s.gui.setup.config.calls };
 }
 
 impl Session {
@@ -56,17 +43,12 @@ impl Session {
         };
         Some(Session {
             gui: Gui::open_alone(alloc, assets, config).ok()?,
-            left: MOST,
         })
     }
 
     /// Makes a call, where there is room for one more.
     fn call(&mut self, alloc: Global, call: &Call) {
-        if self.left == 0 || !call.fits(TASK) {
-            return;
-        }
         let mut taken = Vec::new(alloc);
-        self.left -= 1;
         let _ = self.gui.apply(alloc, TASK, call, &mut taken);
     }
 

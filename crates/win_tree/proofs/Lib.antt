@@ -5,6 +5,7 @@ mod FreeLemmas
 mod FamilyLemmas
 mod TreeLemmas
 mod ChangeLemmas
+mod ReplacementLemmas
 mod StackLemmas
 mod BlockLemmas
 mod ListLemmas

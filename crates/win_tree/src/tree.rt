@@ -62,7 +62,7 @@ impl Model for Tree {
     ghost invariant = { λ t. IsTree t.nodes t.desktop t.handles };
 }
 
-/// A new window: shown, not transparent, and with nothing that waits to be painted.
+/// A new window: shown, not transparent, and nowhere invalid.
 fn window(handle: u32, parent: u32, x: i16, y: i16, w: u16, h: u16, class: u8) -> Win
     ensures { result ≡ new_window handle parent x y w h class }
 {
@@ -467,7 +467,7 @@ impl Tree {
     }
 
     /// Puts a window in the place of the live one that has its handle. It differs from that one at
-    /// most in what it paints and what waits to be painted, and the desktop keeps its class and
+    /// most in what it paints and where it is invalid, and the desktop keeps its class and
     /// isn't transparent. An invalid rectangle of it is not empty.
     pub fn put(&mut self, win: &Win)
         requires { IsReplacement (window_of self.old.windows win.now.handle) win.now }

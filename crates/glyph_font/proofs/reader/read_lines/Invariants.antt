@@ -7,7 +7,7 @@ use Rattle.glyph_font.proofs.reader.read_lines.Given as goal
 abbrev pub invariant-loop-rest : goal.invariant-loop-rest
 invariant-loop-rest l = record {
   read : from_line (l.number + 1) l.draft (lines_of l.rest) ≡ read_of l.height l.body;
-  stands : (front : List (List ℕ)) × (length front ≡ l.number) × Stands l.draft front;
+  stands : (prefix : List (List ℕ)) × (length prefix ≡ l.number) × Stands l.draft prefix;
 }
 
 abbrev pub decreases-loop-rest : goal.decreases-loop-rest

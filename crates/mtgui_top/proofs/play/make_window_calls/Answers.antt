@@ -1,9 +1,9 @@
-use Rattle.std.proofs.Common.{◌+◌, ◌≤◌, drop, ap, sym, subst, ◌∙◌}
+use Rattle.std.proofs.Common.{◌+◌, ◌≤◌, length, drop, ap, sym, subst, ◌∙◌}
 use Rattle.calls.specs.declared.line.Line.{Line}
 use Rattle.calls.specs.Lines.{call_count}
-use Rattle.gui_core.specs.Machines.{Machine}
+use Rattle.gui_core.specs.Histories.{Chronicle, state_of}
 use Rattle.mtgui_top.specs.Changes.{may_change}
-use Rattle.mtgui_top.specs.Machines.{LineDone, HasRoom}
+use Rattle.mtgui_top.specs.Histories.{LineDone, HasRoom}
 use Rattle.mtgui_top.proofs.PlayLemmas.{stepped, room-more, made-more, skipped-more, window_call-more, other_call-more, after_window_calls}
 use Rattle.mtgui_top.proofs.play.make_window_calls.Goals.{then-changes_windows, else-changes_windows}
 use Rattle.mtgui_top.proofs.play.make_window_calls.Goals as goal
@@ -29,13 +29,13 @@ loop-line-preserved c =
           let new = w.make_call.new.gui in
           let done = subst (λ (l : Line). LineDone old l new) c.line-item.is w.make_call.ensures in
           record {
-            setup = ap (λ (m : Machine). m.setup) w.gui-is ∙ done.setup ∙ kept.setup;
-            made = subst (λ (m : Machine). m.made + call_count (drop (i + 1) lines) ≤ call_count lines) (sym w.gui-is) (made-more old new lines i line _ lt done kept.made);
-            last = ap (λ (m : Machine). after_window_calls setup m.state (drop (i + 1) lines)) w.gui-is ∙ sym (window_call-more setup old.state new.state lines i line lt (may ∙ w.if-changes_windows.true) (stepped setup old new _ kept.setup done)) ∙ kept.last;
+            setup = ap (λ (m : Chronicle). m.setup) w.gui-is ∙ done.setup ∙ kept.setup;
+            made = subst (λ (m : Chronicle). length m.history + call_count (drop (i + 1) lines) ≤ call_count lines) (sym w.gui-is) (made-more old new lines i line _ lt done kept.made);
+            last = ap (λ (m : Chronicle). after_window_calls setup (state_of m) (drop (i + 1) lines)) w.gui-is ∙ sym (window_call-more setup (state_of old) (state_of new) lines i line lt (may ∙ w.if-changes_windows.true) (stepped setup old new _ kept.setup done)) ∙ kept.last;
           }
       | else-changes_windows w ↦ record {
-        setup = ap (λ (m : Machine). m.setup) w.gui-is ∙ kept.setup;
-        made = subst (λ (m : Machine). m.made + call_count (drop (i + 1) lines) ≤ call_count lines) (sym w.gui-is) (skipped-more old lines i _ lt kept.made);
-        last = ap (λ (m : Machine). after_window_calls setup m.state (drop (i + 1) lines)) w.gui-is ∙ sym (other_call-more setup old.state lines i line lt (may ∙ w.if-changes_windows.false)) ∙ kept.last;
+        setup = ap (λ (m : Chronicle). m.setup) w.gui-is ∙ kept.setup;
+        made = subst (λ (m : Chronicle). length m.history + call_count (drop (i + 1) lines) ≤ call_count lines) (sym w.gui-is) (skipped-more old lines i _ lt kept.made);
+        last = ap (λ (m : Chronicle). after_window_calls setup (state_of m) (drop (i + 1) lines)) w.gui-is ∙ sym (other_call-more setup (state_of old) lines i line lt (may ∙ w.if-changes_windows.false)) ∙ kept.last;
       }
     ]

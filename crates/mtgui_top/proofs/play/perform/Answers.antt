@@ -4,7 +4,8 @@ use Rattle.calls.specs.declared.line.Line.{Line}
 use Rattle.outside.specs.Logs.{SinkLog, Wrote}
 use Rattle.outside.proofs.CallerLemmas.{Partly-step, Partly-left, Partly-last}
 use Rattle.mtgui_top.specs.declared.play.Stop.{Stop}
-use Rattle.mtgui_top.specs.Machines.{LineDone}
+use Rattle.gui_core.specs.Histories.{state_of, refused_of}
+use Rattle.mtgui_top.specs.Histories.{LineDone}
 use Rattle.mtgui_top.specs.Outcome.{LinesEnd}
 use Rattle.mtgui_top.proofs.PlayLemmas.{stepped, all-made, replies-step, counted-more, after_lines-more, replies-all, summary-last, line_left}
 use Rattle.mtgui_top.proofs.play.perform.Goals as goal
@@ -27,7 +28,7 @@ loop-line-preserved g c =
       setup = done.setup ∙ kept.setup;
       made = all-made old new lines i line _ c.loop-line-test.true done kept.made;
       refused = counted-more setup old new lines i line _ c.loop-line-test.true kept.setup done kept.refused;
-      last = sym (after_lines-more setup old.state new.state lines i line c.loop-line-test.true (stepped setup old new _ kept.setup done)) ∙ kept.last;
+      last = sym (after_lines-more setup (state_of old) (state_of new) lines i line c.loop-line-test.true (stepped setup old new _ kept.setup done)) ∙ kept.last;
       wrote = Partly-step _ _ _ _ _ _ _ kept.wrote (replies-step setup old new lines i line _ c.line-item.is c.loop-line-test.true kept.setup ended.0) ended.1;
     }
 
@@ -35,7 +36,7 @@ pub returns-in_err-perform_line : goal.returns-in_err-perform_line
 returns-in_err-perform_line g c =
     let p = err_from_is_err_and c.from_residual.result c.from_residual.ensures.1 in
     let setup = c.args.gui.now.setup in
-    let s = c.args.gui.now.state in
+    let s = state_of c.args.gui.now in
     let lines = c.args.lines.now in
     let kept = c.loop-line.invariant in
     let left = line_left c.in_err-perform_line.field-0.0 setup s lines c.loop-line.line-index c.line-item.result c.loop-line.gui c.perform_line.new.gui (g.K.Sink.log c.args.out.now) (g.K.Sink.log c.loop-line.out) (g.K.Sink.log c.perform_line.new.out) c.line-item.is c.loop-line-test.true kept.setup kept.wrote c.in_err-perform_line.ensures in
@@ -45,24 +46,24 @@ pub returns-in_err-write_summary : goal.returns-in_err-write_summary
 returns-in_err-write_summary g c =
     let p = err_from_is_err_and c.from_residual-in_err-write_summary.result c.from_residual-in_err-write_summary.ensures.1 in
     let setup = c.args.gui.now.setup in
-    let s = c.args.gui.now.state in
-    let now = c.loop-line.gui.state in
+    let s = state_of c.args.gui.now in
+    let now = state_of c.loop-line.gui in
     let lines = c.args.lines.now in
     let i = c.loop-line.line-index in
     let kept = c.loop-line.invariant in
     let r : Result (Unit {0}) _ = Err c.in_err-write_summary.field-0.0 in
-    let last = summary-last setup s now lines i c.loop-line.gui.refused _ c.loop-line-test.false kept.refused kept.last (c.len.ensures.value ∙ ap length c.windows.ensures) in
+    let last = summary-last setup s now lines i (refused_of c.loop-line.gui) _ c.loop-line-test.false kept.refused kept.last (c.len.ensures.value ∙ ap length c.windows.ensures) in
     let broken = Partly-last r _ _ _ _ _ (Partly-left _ _ _ _ _ kept.wrote (replies-all setup now lines i _ c.loop-line-test.false)) (wrote_is r _ _ _ _ last (rw (c.refused-refused.ensures, c.call_count.ensures.value) at c.in_err-write_summary.ensures)) in
     rw p.1 (subst (λ (e : Stop). LinesEnd (Err e) setup s lines (g.K.Sink.log c.args.out.now) (g.K.Sink.log c.write_summary.new.out)) (sym p.2) broken)
 
 pub returns : goal.returns
 returns g c =
     let setup = c.args.gui.now.setup in
-    let s = c.args.gui.now.state in
-    let now = c.loop-line.gui.state in
+    let s = state_of c.args.gui.now in
+    let now = state_of c.loop-line.gui in
     let lines = c.args.lines.now in
     let i = c.loop-line.line-index in
     let kept = c.loop-line.invariant in
     let r : Result (Unit {0}) (Unit {0}) = Ok tt in
-    let last = summary-last setup s now lines i c.loop-line.gui.refused _ c.loop-line-test.false kept.refused kept.last (c.len.ensures.value ∙ ap length c.windows.ensures) in
+    let last = summary-last setup s now lines i (refused_of c.loop-line.gui) _ c.loop-line-test.false kept.refused kept.last (c.len.ensures.value ∙ ap length c.windows.ensures) in
     Partly-last r _ _ _ _ _ (Partly-left _ _ _ _ _ kept.wrote (replies-all setup now lines i _ c.loop-line-test.false)) (wrote_is r _ _ _ _ last (rw (c.refused-refused.ensures, c.call_count.ensures.value) at c.in_ok-write_summary.ensures))

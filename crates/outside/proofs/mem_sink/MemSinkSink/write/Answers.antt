@@ -1,6 +1,6 @@
 use Rattle.std.proofs.Common.{arith}
 use Rattle.std.proofs.lemmas.Grind.{common_steps}
-use Rattle.outside.proofs.FrontLemmas.{Broken-take}
+use Rattle.outside.proofs.PrefixLemmas.{Broken-take}
 use Rattle.outside.proofs.mem_sink.MemSinkSink.write.Goals as goal
 
 pub returns-then-is_to_fail-2-clause-wrote : goal.returns-then-is_to_fail-2-clause-wrote

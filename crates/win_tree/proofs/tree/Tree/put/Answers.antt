@@ -1,7 +1,8 @@
 use Rattle.std.proofs.Common.{ap}
 use Rattle.scene.specs.Places.{window_of}
 use Rattle.win_tree.specs.Trees.{Scene}
-use Rattle.win_tree.proofs.ChangeLemmas.{live_own, replacement_own}
+use Rattle.win_tree.proofs.ChangeLemmas.{live_own}
+use Rattle.win_tree.proofs.ReplacementLemmas.{replacement_own}
 use Rattle.win_tree.proofs.tree.Tree.put.Goals as goal
 
 pub replace-requires-clause-window : goal.replace-requires-clause-window

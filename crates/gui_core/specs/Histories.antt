@@ -1,0 +1,84 @@
+-- The core as its callers see it: what it was opened with, the history of its calls, and what these
+-- come to.
+use Rattle.std.specs.Prelude.{◌≡◌, ℕ, ◌+◌, ◌≤◌, Bool, true, false, not, ◌&&◌, nat_le, None, if◌then◌else◌, List, [], ◌∷◌, ◌++◌, length}
+use Rattle.std.specs.List.{AllByRecursion}
+use Rattle.paint_ops.specs.Kinds.{Assets}
+use Rattle.calls.specs.Actors.{fits}
+use Rattle.calls.specs.declared.config.Config.{Config}
+use Rattle.calls.specs.declared.call.Call.{Call}
+use Rattle.calls.specs.declared.entry.Entry.{Entry}
+use Rattle.calls.specs.declared.entry.Entry.TheVariants as entry
+use Rattle.calls.specs.declared.reply.Reply.{Reply}
+use Rattle.calls.specs.declared.reply.Reply.TheVariants.{Refused}
+use Rattle.calls.specs.declared.reply.Refusal.TheVariants.{Full}
+use Rattle.gui_core.specs.Setups.{Setup, setup_for}
+use Rattle.gui_core.specs.States.{State, opening, step, state_after, objections_to, refusal_of, is_refused, is_want_of_memory}
+use Rattle.gui_core.specs.Machines.{Machine, makes_device}
+
+-- what the core was opened with, and all entries so far, in order
+pub record Chronicle : Type 0 where
+  pub setup : Setup
+  pub history : List Entry
+
+-- before the first call
+abbrev pub starting : Assets → Config → Chronicle
+starting assets config = record { setup = setup_for assets config; history = [] }
+
+-- what the entries come to, one after the other
+abbrev pub state_of : Chronicle → State
+state_of c = state_after c.setup (opening c.setup) c.history
+
+-- the number of a step that is refused: 1 or 0
+abbrev pub refused_in : Setup → State → Entry → ℕ
+refused_in setup s e = if is_refused (step setup s e).reply then 1 else 0
+
+-- how many of the entries after a state are refused
+abbrev pub refusals : Setup → State → List Entry → ℕ
+refusals setup s [] = 0
+refusals setup s (e ∷ es) = refused_in setup s e + refusals setup (step setup s e).state es
+
+-- how many entries were refused
+abbrev pub refused_of : Chronicle → ℕ
+refused_of c = refusals c.setup (opening c.setup) c.history
+
+-- as many calls were made as the core was opened for
+abbrev pub is_full : Chronicle → Bool
+is_full c = nat_le c.setup.config.calls (length c.history)
+
+-- the entry's actor may make its call
+abbrev pub FitsItsActor : Entry → Type 0
+FitsItsActor (entry.Call actor call) = fits call actor ≡ true
+
+-- each actor may make its calls, and there are no more of them than the core was opened for
+pub record IsLegal (c : Chronicle) : Type 0 where
+  pub fit : AllByRecursion FitsItsActor c.history
+  pub few : length c.history ≤ c.setup.config.calls
+
+-- whether a reply tells that there is no room for one call more
+abbrev pub says_full : Reply → Bool
+says_full (Refused Full) = true
+says_full reply = false
+
+-- whether a call that is answered so is in the history: there was room for it, and memory
+abbrev pub is_entered : Reply → Bool
+is_entered reply = not (says_full reply) && not (is_want_of_memory reply)
+
+-- a call came into the history, and its reply is that of the step at its place
+pub record Answers (old : Chronicle) (actor : ℕ) (call : Call) (new : Chronicle)
+    (reply : Reply) : Type 0 where
+  pub setup : new.setup ≡ old.setup
+  pub history : new.history ≡ old.history ++ entry.Call actor call ∷ []
+  pub reply_is : reply ≡ (step old.setup (state_of old) (entry.Call actor call)).reply
+
+-- the call makes a device, and nothing is held against it
+pub record MayMakeDevice (c : Chronicle) (actor : ℕ) (call : Call) : Type 0 where
+  pub makes : makes_device call ≡ true
+  pub free : refusal_of (objections_to c.setup (state_of c) actor call) ≡ None
+
+-- The machine is what the entries come to, they are legal, and there is room for all that may come.
+pub record IsRecorded (m : Machine) (history : List Entry) (capacity : ℕ) : Type 0 where
+  pub state : m.state ≡ state_after m.setup (opening m.setup) history
+  pub made : m.made ≡ length history
+  pub refused : m.refused ≡ refusals m.setup (opening m.setup) history
+  pub legal : IsLegal (record { setup = m.setup; history = history })
+  pub room : m.setup.config.calls ≤ capacity
