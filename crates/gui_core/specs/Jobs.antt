@@ -1,4 +1,4 @@
--- Jobs: each paints the first window that waits for it.
+-- Jobs: each paints the first invalid window.
 use Rattle.std.specs.Prelude.{ℕ, if◌then◌else◌, List, [], ◌∷◌, count_by, position, None}
 use Rattle.std.specs.Option.{option_map_or}
 use Rattle.frame.specs.Pictures.{Picture}

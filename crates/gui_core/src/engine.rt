@@ -215,7 +215,7 @@ impl Engine {
         self.windows.make_valid(which);
     }
 
-    /// Paints until no window waits for it, and tells how many jobs that took.
+    /// Paints until no window is invalid, and tells how many jobs that took.
     fn exec(&mut self) -> u16
         ensures jobs { result ≡ jobs_of self.old.state.windows }
         ensures state { self.new

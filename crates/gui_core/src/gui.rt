@@ -124,9 +124,9 @@ impl Gui {
     /// is a part too.
     ///
     /// Two replies tell that the call wasn't made and isn't entered, and then nothing at all
-    /// changes. `Full` comes just where as many calls were made as the core was opened for. `Memory`
-    /// comes where there is none for a device, though nothing else is held against it. No other
-    /// call takes memory, and none of today gives bytes into `_room`.
+    /// changes. `Full` comes just where as many calls were made as the core was opened for.
+    /// `Memory` comes where there is none for a device, though nothing else is held against it. No
+    /// other call takes memory, and none of today gives bytes into `_room`.
     pub fn apply(&mut self, alloc: Global, actor: u16, call: &Call, _room: &mut Vec<u8>) -> Reply
         requires fits { fits call.now actor ≡ true }
         ensures full { says_full result ≡ is_full self.old }

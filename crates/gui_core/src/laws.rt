@@ -17,8 +17,8 @@ ghost use Rattle.gui_core.specs.Promises.{IsRightOutside, IsPainterOutside, None
 use calls::{Call, Refusal, Reply};
 
 /// Does nothing. After any calls the latest picture is the painter's outside the damage and the
-/// stain, which is what tasks drew directly and no job has painted since. Where no window waits to
-/// be painted it is the painter's outside the stain, and where no task drew the whole painter's
+/// stain, which is what tasks drew directly and no job has painted since. Where no window is
+/// invalid it is the painter's outside the stain, and where no task drew the whole painter's
 /// picture. A call that draws nothing stains no point.
 pub fn damage_covers_change()
     ensures covers { (setup : Setup) (es : List Entry)

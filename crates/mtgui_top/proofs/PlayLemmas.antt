@@ -80,21 +80,15 @@ count_first line lines = by_test (is_call line) refl where
   by_test true is = rw is (omega arith)
   by_test false is = rw is (sym (zero-add (call_count lines)))
 
--- a call for which there is room, and memory, came into the history
-pub call_entered : (old new : Chronicle) (task : ℕ) (call : Call) (reply : Reply) → HasRoom old (Task task (act.Call call)) → says_full reply ≡ is_full old → is_want_of_memory reply ≡ false → (is_entered reply ≡ true → Answers old task call new reply)
-    → Answers old task call new reply
-call_entered old new task call reply room full memory answers =
-    answers (entered reply (full ∙ lt-leb old.setup.config.calls (length old.history) (omega (arith, room))) memory)
-
-pub call_done : (old new : Chronicle) (task : ℕ) (call : Call) (reply : Reply) → Answers old task call new reply → LineDone old (Task task (act.Call call)) new
-call_done old new task call reply a = record { setup = a.setup; history = a.history }
-
--- what is written for it
-pub call_answered : (old new : Chronicle) (task : ℕ) (call : Call) (reply : Reply) (shown : Picture) → Answers old task call new reply → shown ≡ (state_of new).shown
-    → reply_text call reply shown ≡ answer_text old.setup (state_of old) (Task task (act.Call call))
-call_answered old new task call reply shown a is =
-    let now = step old.setup (state_of old) (entry.Call task call) in
-    ap (λ (p : Picture). reply_text call reply p) (is ∙ ap (λ (s : State). s.shown) (answers-state old new task call reply a)) ∙ ap (λ (r : Reply). reply_text call r now.state.shown) a.reply_is
+-- a call for which there is room, and memory, came into the history, and what is written for it is its line's answer
+pub call_ends : (old new : Chronicle) (task : ℕ) (call : Call) (reply : Reply) (shown : Picture) → HasRoom old (Task task (act.Call call)) → says_full reply ≡ is_full old → is_want_of_memory reply ≡ false → (is_entered reply ≡ true → Answers old task call new reply) → shown ≡ (state_of new).shown
+    → LineDone old (Task task (act.Call call)) new × (reply_text call reply shown ≡ answer_text old.setup (state_of old) (Task task (act.Call call)))
+call_ends old new task call reply shown room full memory answers is =
+    let a = answers (entered reply (full ∙ lt-leb old.setup.config.calls (length old.history) (omega (arith, room))) memory) in
+    let now = step old.setup (state_of old) (entry.Call task call) in (
+      record { setup = a.setup; history = a.history },
+      ap (λ (p : Picture). reply_text call reply p) (is ∙ ap (λ (s : State). s.shown) (answers-state old new task call reply a)) ∙ ap (λ (r : Reply). reply_text call r now.state.shown) a.reply_is,
+    )
 
 -- ---- all lines
 

@@ -23,7 +23,8 @@ pub fn one_spelling()
 /// the values are in their ranges; so they say at most one list of values. The same holds of a line
 /// of a word and fields.
 pub fn fields_tell_values()
-    ensures words { (fs : List Field) (words : List (List ℕ)) (vs : Values fs) → are_fields fs ≡ true
+    ensures words { (fs : List Field) (words : List (List ℕ)) (vs : Values fs)
+        → are_fields fs ≡ true
         → (values_of fs words ≡ Some vs) ↔ ((words ≡ texts_of fs vs) × AreIn fs vs) }
     ensures line { (name : List ℕ) (fs : List Field) (line : List ℕ) (vs : Values fs)
         → is_word name ≡ true → are_fields fs ≡ true

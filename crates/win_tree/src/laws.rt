@@ -124,7 +124,8 @@ pub fn damage_covers_these_changes()
 pub fn descendants_are_clipped()
     ensures { (screen : Rect) (ws : List Win) (h : ℕ) (w : Win) → IsStack ws
         → window_of ws h ≡ Some w
-        → AllByRecursion (λ v. LiesIn (clip_in screen ws v) (clip_in screen ws w)) (family_of h ws) }
+        → AllByRecursion (λ v. LiesIn (clip_in screen ws v) (clip_in screen ws w))
+        (family_of h ws) }
 {}
 
 /// Does nothing. Where a window lies and what it may paint depends on it and its ancestors alone.
