@@ -1,23 +1,23 @@
 -- The laws of call lines, the same for each word of the table.
-use Rattle.std.proofs.Common.{◌≡◌, ℕ, ◌≤◌, Bool, true, false, ◌&&◌, List, [], ◌∷◌, ◌++◌, Some, refl, sym, ap, subst, ◌∙◌, inl, inr, arith, lit<}
+use Rattle.std.proofs.Common.{◌≡◌, ℕ, ◌<◌, ◌≤◌, get_or, Bool, true, false, ◌&&◌, List, [], ◌∷◌, ◌++◌, Some, None, refl, sym, ap, subst, ◌∙◌, inl, inr, arith, lit<}
 use Rattle.std.specs.Prelude.{bytes_eq, codes}
 use Rattle.std.specs.Fmt.{decimal}
 use Rattle.std.specs.List.{AllByRecursion, find}
-use Rattle.std.proofs.lemmas.Bool.{and_parts}
+use Rattle.std.proofs.lemmas.Bool.{and_parts, cases_Bool}
 use Rattle.std.proofs.lemmas.List.{append-nil}
-use Rattle.spelling.specs.Words.{words_of, first_word, natural_at}
-use Rattle.std.proofs.lemmas.Option.{same_Some}
-use Rattle.spelling.proofs.CallerLemmas.{IsWhole, parts-join, bind_some, chosen, onto, word_takes, named, nothing_left, natural_at_takes, natural_at_again, line_from_words, whole_by_test, natural_whole, fields_take, fields_again, fields_whole}
+use Rattle.spelling.specs.Words.{words_of, first_word, natural_in, natural_at}
+use Rattle.std.proofs.lemmas.Option.{none-some, same_Some}
+use Rattle.spelling.proofs.CallerLemmas.{IsWhole, parts-join, bind_some, chosen, onto, word_takes, named, same_name, nothing_left, natural_in_again, no_natural_in, no_natural, natural_at_takes, natural_at_again, line_from_words, whole_by_test, natural_whole, fields_take, fields_again, fields_whole}
 use Rattle.calls.specs.declared.word.Word.{Word}
 use Rattle.calls.specs.declared.word.Word.TheVariants as word
 use Rattle.calls.specs.declared.call.Call.{Call}
 use Rattle.calls.specs.declared.call.Call.TheVariants as call
 use Rattle.calls.specs.declared.line.Line.{Line}
-use Rattle.calls.specs.declared.line.Line.TheVariants.{Task}
+use Rattle.calls.specs.declared.line.Line.TheVariants.{Task, Tick}
 use Rattle.calls.specs.declared.line.Act.{Act}
 use Rattle.calls.specs.declared.line.Act.TheVariants as act
 use Rattle.spelling.specs.Fields.{Field, Values, texts_of, AreIn, is_word, are_fields, made, read_fields}
-use Rattle.calls.specs.Words.{Said, said_by, SaidFits, Row, row, name_of_word, fields_of, make_of, call_by, row_of, all_words, said, words_of_said, words_of_call, CallFits, words_of_act, ActFits, word_of, call_with, act_named, act_at, line_of, line_words, text_of_line, LineFits}
+use Rattle.calls.specs.Words.{Said, said_by, SaidFits, Row, row, name_of_word, fields_of, make_of, call_by, row_of, all_words, said, words_of_said, words_of_call, CallFits, words_of_act, ActFits, word_of, call_with, act_named, act_at, are_tick, task_line_of, line_of, line_words, text_of_line, LineFits}
 
 -- ---- the table: each clause is checked for each word
 
@@ -138,9 +138,55 @@ act_whole act.Lock fits = (whole_by_test (codes "lock") refl, tt)
 act_whole act.Unlock fits = (whole_by_test (codes "unlock") refl, tt)
 act_whole (act.Call c) fits = said_whole (said c) fits
 
-pub line_takes : (words : List (List ℕ)) (line : Line) → line_of words ≡ Some line → (words ≡ line_words line) × LineFits line
-unfolding line_of
-line_takes words line e =
+-- ---- ticks
+
+-- the words of a tick
+tick_takes : (words : List (List ℕ)) → are_tick words ≡ true → words ≡ line_words Tick
+tick_takes [] e = absurd cc
+tick_takes (first ∷ []) e = absurd cc
+tick_takes (first ∷ second ∷ []) e =
+    let both = and_parts (bytes_eq first (codes "display")) _ e in
+    rw (named first (codes "display") both.0, named second (codes "tick") both.1) refl
+tick_takes (first ∷ second ∷ third ∷ words) e = absurd cc
+
+-- the line of a tick, told by its bytes
+pub tick_line : (text : List ℕ) → are_tick (words_of text) ≡ bytes_eq text (codes "display tick")
+tick_line text =
+    elim (cases_Bool (are_tick (words_of text))) [
+      | inl tick ↦
+          let is : text ≡ codes "display tick" = line_from_words text (line_words Tick) (tick_takes (words_of text) tick) in
+          tick ∙ sym (ap (λ (t : List ℕ). bytes_eq t (codes "display tick")) is ∙ same_name (codes "display tick"))
+      | inr other ↦
+          elim (cases_Bool (bytes_eq text (codes "display tick"))) [
+            | inl same ↦ absurd (cc (sym (ap (λ (t : List ℕ). are_tick (words_of t)) (named text (codes "display tick") same)) ∙ other))
+            | inr differs ↦ other ∙ sym differs
+          ]
+    ]
+
+-- a line that begins with another word isn't one
+no_tick : (name : List ℕ) (words : List (List ℕ)) → bytes_eq name (codes "display") ≡ false → are_tick (name ∷ words) ≡ false
+no_tick name [] other = refl
+no_tick name (second ∷ []) other = rw other refl
+no_tick name (second ∷ third ∷ words) other = refl
+
+-- a line that begins with no task and not with `display` is no call line
+pub no_line : (name : List ℕ) (words : List (List ℕ)) → 57 < get_or name 0 0 → bytes_eq name (codes "display") ≡ false → line_of (name ∷ words) ≡ None
+unfolding line_of task_line_of
+no_line name words first other = rw (no_tick name words other, no_natural 1 16 name words first) refl
+
+-- a task is a number, so its line's first word isn't `display`
+task_is_no_tick : (task : ℕ) (words : List (List ℕ)) → 1 ≤ task → task ≤ 16 → are_tick (decimal task ∷ words) ≡ false
+task_is_no_tick task words above below =
+    elim (cases_Bool (bytes_eq (decimal task) (codes "display"))) [
+      | inl same ↦ absurd (none-some task (sym (no_natural_in 1 16 (codes "display") (lit< tt)) ∙ ap (natural_in 1 16) (sym (named (decimal task) (codes "display") same)) ∙ natural_in_again 1 16 task above below (lit< tt)))
+      | inr other ↦ no_tick (decimal task) words other
+    ]
+
+-- ---- lines
+
+task_line_takes : (words : List (List ℕ)) (line : Line) → task_line_of words ≡ Some line → (words ≡ line_words line) × LineFits line
+unfolding task_line_of
+task_line_takes words line e =
     let t = bind_some (natural_at 1 16 words) _ line e in
     let a = bind_some (act_at t.0.1) _ line t.2 in
     let task = natural_at_takes 1 16 words t.0 t.1 in
@@ -149,14 +195,29 @@ line_takes words line e =
     subst (λ (l : Line). (words ≡ line_words l) × LineFits l) whole.1
     (task.0 ∙ onto (decimal t.0.0) _ _ (spelled.0 ∙ ap (λ (ws : List (List ℕ)). words_of_act a.0.0 ++ ws) whole.0 ∙ append-nil (words_of_act a.0.0)), (task.1, task.2, spelled.1))
 
+task_line_again : (task : ℕ) (a : Act) → LineFits (Task task a) → task_line_of (line_words (Task task a)) ≡ Some (Task task a)
+unfolding task_line_of
+task_line_again task a fits = rw (natural_at_again 1 16 task (words_of_act a) fits.0 fits.1 (lit< tt), act_again a fits.2) refl
+
+pub line_takes : (words : List (List ℕ)) (line : Line) → line_of words ≡ Some line → (words ≡ line_words line) × LineFits line
+unfolding line_of
+line_takes words line e =
+    elim (chosen (are_tick words) (Some Tick) (task_line_of words) (Some line) e) [
+      | inl tick ↦ subst (λ (l : Line). (words ≡ line_words l) × LineFits l) (same_Some Tick line tick.1) (tick_takes words tick.0, tt)
+      | inr task ↦ task_line_takes words line task.1
+    ]
+
 pub line_again : (line : Line) → LineFits line → line_of (line_words line) ≡ Some line
 unfolding line_of
-line_again (Task task a) fits = rw (natural_at_again 1 16 task (words_of_act a) fits.0 fits.1 (lit< tt), act_again a fits.2) refl
+line_again (Task task a) fits = rw (task_is_no_tick task (words_of_act a) fits.0 fits.1) (task_line_again task a fits)
+line_again Tick fits = refl
 
 pub line_words_whole : (line : Line) → LineFits line → words_of (text_of_line line) ≡ line_words line
 line_words_whole (Task task a) fits =
     let below : task ≤ 16 = fits.1 in
     parts-join 32 (decimal task) (words_of_act a) (natural_whole task (omega arith), act_whole a fits.2)
+line_words_whole Tick fits =
+    parts-join 32 (codes "display") (codes "tick" ∷ []) (whole_by_test (codes "display") refl, (whole_by_test (codes "tick") refl, tt))
 
 pub line_read : (text : List ℕ) (line : Line) → line_of (words_of text) ≡ Some line → (text ≡ text_of_line line) × LineFits line
 line_read text line e = let t = line_takes (words_of text) line e in (line_from_words text (line_words line) t.0, t.1)

@@ -1,5 +1,5 @@
 -- The table of the words that name calls, and the lines that they make.
-use Rattle.std.specs.Prelude.{ℕ, ◌≤◌, List, [], ◌∷◌, length, Option, Some, None, ◌==◌, if◌then◌else◌, find, bytes_eq, codes}
+use Rattle.std.specs.Prelude.{ℕ, ◌≤◌, Bool, false, ◌&&◌, List, [], ◌∷◌, length, Option, Some, None, ◌==◌, if◌then◌else◌, find, bytes_eq, codes}
 use Rattle.std.specs.Fmt.{decimal}
 use Rattle.spelling.specs.Words.{◌>>=◌, first_word, natural_at, text_of_words}
 use Rattle.spelling.specs.Fields.{Field, Natural, Number, Colour, Choice, Makes, Values, taking, texts_of, AreIn, read_fields}
@@ -10,7 +10,7 @@ use Rattle.calls.specs.declared.call.Call.TheVariants as call
 use Rattle.calls.specs.declared.line.Act.{Act}
 use Rattle.calls.specs.declared.line.Act.TheVariants as act
 use Rattle.calls.specs.declared.line.Line.{Line}
-use Rattle.calls.specs.declared.line.Line.TheVariants.{Task}
+use Rattle.calls.specs.declared.line.Line.TheVariants.{Task, Tick}
 
 -- ---- kinds of fields
 
@@ -85,6 +85,8 @@ row_of word.InvalidateRect =
     call.InvalidateRect
 row_of word.InvalidateArea =
     row (codes "invalidate_area") (Number ∷ Number ∷ Number ∷ Number ∷ []) call.InvalidateArea
+row_of word.Begin = row (codes "begin") [] call.Begin
+row_of word.End = row (codes "end") [] call.End
 row_of word.Exec = row (codes "exec") [] call.Exec
 row_of word.Exec1 = row (codes "exec1") [] call.Exec1
 row_of word.Scan = row (codes "scan") [] call.Scan
@@ -100,8 +102,8 @@ all_words =
     ∷ word.SetValue ∷ word.Send ∷ word.Select ∷ word.Colour ∷ word.BkColour ∷ word.TextMode
     ∷ word.Font ∷ word.Save ∷ word.Restore ∷ word.Fill ∷ word.Frame ∷ word.Line ∷ word.Bitmap
     ∷ word.Text ∷ word.DevCreate ∷ word.DevDelete ∷ word.DevSelect ∷ word.DevCopy
-    ∷ word.Invalidate ∷ word.InvalidateRect ∷ word.InvalidateArea ∷ word.Exec ∷ word.Exec1
-    ∷ word.Scan ∷ []
+    ∷ word.Invalidate ∷ word.InvalidateRect ∷ word.InvalidateArea ∷ word.Begin ∷ word.End
+    ∷ word.Exec ∷ word.Exec1 ∷ word.Scan ∷ []
 
 -- ---- the text of a call line
 
@@ -147,6 +149,8 @@ said (call.DevCopy device x y) = say word.DevCopy device x y
 said (call.Invalidate h) = say word.Invalidate h
 said (call.InvalidateRect h x0 y0 x1 y1) = say word.InvalidateRect h x0 y0 x1 y1
 said (call.InvalidateArea x0 y0 x1 y1) = say word.InvalidateArea x0 y0 x1 y1
+said call.Begin = say word.Begin
+said call.End = say word.End
 said call.Exec = say word.Exec
 said call.Exec1 = say word.Exec1
 said call.Scan = say word.Scan
@@ -175,9 +179,10 @@ abbrev pub ActFits : Act → Type 0
 ActFits (act.Call c) = CallFits c
 ActFits _ = Unit {0}
 
--- a call line's words: the task and what it does
+-- a call line's words: the task and what it does, or those of a tick
 abbrev pub line_words : Line → List (List ℕ)
 line_words (Task task a) = decimal task ∷ words_of_act a
+line_words Tick = codes "display" ∷ codes "tick" ∷ []
 
 -- a call line
 abbrev pub text_of_line : Line → List ℕ
@@ -186,6 +191,7 @@ text_of_line line = text_of_words (line_words line)
 -- the ranges of a line's numbers
 abbrev pub LineFits : Line → Type 0
 LineFits (Task task a) = (1 ≤ task) × (task ≤ 16) × ActFits a
+LineFits Tick = Unit {0}
 
 -- ---- reading
 
@@ -212,9 +218,19 @@ act_at words = do
   name ← first_word words
   act_named name.0 name.1
 
--- the call line that the words say, all of them
-unfoldable pub line_of : List (List ℕ) → Option Line
-line_of words = do
+-- the words are those of a tick
+abbrev pub are_tick : List (List ℕ) → Bool
+are_tick (first ∷ second ∷ []) =
+    bytes_eq first (codes "display") && bytes_eq second (codes "tick")
+are_tick _ = false
+
+-- what the words say that a task does
+unfoldable pub task_line_of : List (List ℕ) → Option Line
+task_line_of words = do
   task ← natural_at 1 16 words
   a ← act_at task.1
   if length a.1 == 0 then Some (Task task.0 a.0) else None
+
+-- the call line that the words say, all of them
+unfoldable pub line_of : List (List ℕ) → Option Line
+line_of words = if are_tick words then Some Tick else task_line_of words

@@ -179,6 +179,11 @@ pub enum Call {
         x1: i16,
         y1: i16,
     },
+    /// Begins drawing on a buffer that isn't shown, which first gets what was asked for last. Up to
+    /// 100 are open at a time, of all tasks together.
+    Begin,
+    /// Ends drawing that was begun. The outermost end asks for what was drawn to be shown.
+    End,
     /// Paints until no window is invalid.
     Exec,
     /// Paints the first invalid window, if there is one.

@@ -7,7 +7,7 @@ pub struct Config {
     pub w: u16,
     /// The screen's height in points, from 1 to 768.
     pub h: u16,
-    /// How many buffers it has; today 1.
+    /// How many buffers it has, from 1 to 3.
     pub buffers: u8,
     /// The desktop's back colour, which is that of class 0.
     pub desktop: Colour,

@@ -1,5 +1,5 @@
 ghost use Rattle.std.specs.Prelude.{◌≡◌, ◌≤◌, length};
-ghost use Rattle.calls.specs.Lines.{is_call, call_count};
+ghost use Rattle.calls.specs.Lines.{is_call, is_tick, call_count};
 
 use crate::call::Call;
 
@@ -13,14 +13,17 @@ pub enum Act {
     Unlock,
 }
 
-/// A line of a script that asks for something: what a task from 1 to 16 does.
+/// A line of a script that asks for something.
 #[derive(Clone, Copy, Debug, PartialEq, Eq)]
 pub enum Line {
+    /// What a task from 1 to 16 does.
     Task { task: u16, act: Act },
+    /// The display shows what waits to be shown.
+    Tick,
 }
 
 impl Line {
-    /// Whether the line asks for a call. Lines on the lock don't.
+    /// Whether the line asks for a call. Lines on the lock and ticks don't.
     pub fn is_call(&self) -> bool
         ensures { result ≡ is_call self.now }
     {
@@ -31,6 +34,13 @@ impl Line {
                 ..
             }
         )
+    }
+
+    /// Whether the line is a tick of the display.
+    pub fn is_tick(&self) -> bool
+        ensures { result ≡ is_tick self.now }
+    {
+        matches!(self, Line::Tick)
     }
 }
 

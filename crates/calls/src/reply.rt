@@ -29,6 +29,12 @@ pub enum Refusal {
     NoDevice(u32),
     /// 16 devices live already.
     TooManyDevices,
+    /// No begin is open.
+    NotOpen,
+    /// 100 begins are open already.
+    OpenDepth,
+    /// Of two buffers the switch of this number still waits, so none is free to draw on.
+    Waiting(u32),
     /// As many calls were made as the core was opened for.
     Full,
     /// There is no memory for a device.

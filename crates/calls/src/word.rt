@@ -37,13 +37,15 @@ pub enum Word {
     Invalidate,
     InvalidateRect,
     InvalidateArea,
+    Begin,
+    End,
     Exec,
     Exec1,
     Scan,
 }
 
 /// The words that name calls.
-const WORDS: [Word; 36] = [
+const WORDS: [Word; 38] = [
     Word::Create,
     Word::Delete,
     Word::MoveTo,
@@ -77,6 +79,8 @@ const WORDS: [Word; 36] = [
     Word::Invalidate,
     Word::InvalidateRect,
     Word::InvalidateArea,
+    Word::Begin,
+    Word::End,
     Word::Exec,
     Word::Exec1,
     Word::Scan,
@@ -122,6 +126,8 @@ impl Word {
             Word::Invalidate => b"invalidate",
             Word::InvalidateRect => b"invalidate_rect",
             Word::InvalidateArea => b"invalidate_area",
+            Word::Begin => b"begin",
+            Word::End => b"end",
             Word::Exec => b"exec",
             Word::Exec1 => b"exec1",
             Word::Scan => b"scan",

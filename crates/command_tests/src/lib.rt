@@ -5,6 +5,8 @@
 #[cfg(test)]
 mod aside;
 #[cfg(test)]
+mod buffers;
+#[cfg(test)]
 mod commands;
 #[cfg(test)]
 mod contexts;

@@ -47,7 +47,12 @@ impl Session {
         self.gui.apply(alloc, TASK, call, &mut taken)
     }
 
-    /// The calls that were made, and their actors.
+    /// Lets the display show what waits, and tells whether anything did.
+    pub fn tick(&mut self) -> bool {
+        self.gui.tick()
+    }
+
+    /// The calls that were made, with their actors, and the switches.
     pub fn history(&self) -> &[Entry] {
         self.gui.history()
     }

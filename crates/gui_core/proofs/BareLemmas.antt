@@ -19,7 +19,7 @@ use Rattle.gui_core.specs.declared.change.Change.{Change}
 use Rattle.gui_core.specs.declared.change.Change.TheVariants.{Delete, MoveTo, MoveBy, Resize, Show, Hide, ToTop, ToBottom, SetClass, SetTrans}
 use Rattle.gui_core.specs.Windows.{moved_by, with_class, are_as_they_were, clip_at, listed, after_change, with_invalid_window, with_invalid_rect, with_trans}
 use Rattle.gui_core.specs.Changes.{list_after}
-use Rattle.gui_core.specs.States.{Objection, no_window, too_deep, bad_size, no_class, unchangeable, objections, no_value}
+use Rattle.gui_core.specs.Desks.{Objection, no_window, too_deep, bad_size, no_class, unchangeable, objections, no_value}
 use Rattle.gui_core.proofs.IgnoreLemmas.{bare_invalidated}
 use Rattle.gui_core.proofs.FollowLemmas.{areas_bare}
 use Rattle.gui_core.proofs.ShapeLemmas.{Keeps, window_of-map, has_ancestors-map, without_family-map, raised-map, lowered-map, changed-map, window_changed-map}

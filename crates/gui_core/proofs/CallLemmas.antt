@@ -1,10 +1,12 @@
 -- What calls come to: one step each, counted.
-use Rattle.std.proofs.Common.{◌≡◌, ℕ, ℤ, ◌+◌, ◌≤◌, Bool, true, false, cond, List, [], ◌∷◌, length, Option, Some, None, Result, Ok, Err, subst, refl, sym, ap, ◌∙◌, arith}
+use Rattle.std.proofs.Common.{◌≡◌, ℕ, ℤ, ◌+◌, ◌<◌, ◌≤◌, Bool, true, false, cond, eqb, List, [], ◌∷◌, ◌++◌, length, Option, Some, None, Result, Ok, Err, subst, refl, sym, ap, ◌∙◌, arith}
+use Rattle.std.specs.Prelude.{position, is_some}
 use Rattle.std.specs.List.{AllByRecursion}
+use Rattle.std.proofs.lemmas.Bool.{ne_eqb}
 use Rattle.std.proofs.lemmas.Bool.Decides.{nat_tests}
 use Rattle.std.proofs.lemmas.Int.{ints}
 use Rattle.gfx_base.specs.Rects.{is_empty}
-use Rattle.frame.specs.Pictures.{picture_of}
+use Rattle.frame.specs.Pictures.{Picture, picture_of}
 use Rattle.paint_ops.specs.declared.op.Op.{Op}
 use Rattle.paint_ops.specs.declared.op.Op.TheVariants as op
 use Rattle.paint_ops.specs.Kinds.{Class, Assets}
@@ -26,43 +28,64 @@ use Rattle.gui_core.specs.Scenes.{IsScene}
 use Rattle.gui_core.specs.Windows.{after_change}
 use Rattle.gui_core.specs.Refusals.{Performs, Creates, Alters, Draws, answered}
 use Rattle.gui_core.specs.Devices.{no_device_pictures}
-use Rattle.gui_core.specs.Drawing.{Work, Surfaces, ink_of, devices_after, surfaces_after, reply_to}
+use Rattle.gui_core.specs.Drawing.{Work, Draw, Copy, Surfaces, is_on_screen, devices_after, surfaces_after, reply_to}
+use Rattle.gui_core.specs.Turns.{showing, after_turn, none_free}
+use Rattle.gui_core.specs.Panes.{Panes, surfaces_of, panes_after, pane_objections, begun, ended, Begins}
+use Rattle.multibuf.specs.Screens.{Screen, latest, after_draw}
 use Rattle.gui_core.proofs.KeptLemmas.{kept-with, kept-windows}
 use Rattle.gui_core.proofs.SceneLemmas.{scene_after, scene_created}
 use Rattle.gui_core.proofs.EffectLemmas.{IsOnWindows, IsWork, may_be_made, is_new}
-use Rattle.gui_core.proofs.InkLemmas.{width-ink, height-ink}
-use Rattle.calls.specs.declared.call.Call.TheVariants.{Create}
+use Rattle.gui_core.proofs.TurnLemmas.{screen-showing, screen-turn, owes-turn, turn_is, latest-begun}
+use Rattle.gui_core.specs.Jobs.{jobs_of}
+use Rattle.invalidate.specs.Invalidation.{is_invalid}
+use Rattle.gui_core.proofs.JobLemmas.{no_jobs, jobs-more, none_invalid_any, some_invalid}
+use Rattle.gui_core.proofs.InkLemmas.{refused_next}
+use Rattle.gui_core.proofs.StateLemmas.{is_turn_call, desk_effect_is, plain_step_of}
+use Rattle.calls.specs.declared.call.Call.TheVariants.{Begin, End, Exec, Exec1, Create, DevCopy}
+use Rattle.strokes.specs.declared.shape.Shape.{Shape}
+use Rattle.strokes.specs.declared.shape.Shape.TheVariants as shape
+use Rattle.gui_core.specs.Changes.{stroke_call}
 use Rattle.scene.specs.Families.{new_window, desktop_with, on_top_of}
-use Rattle.gui_core.specs.States.{State, Step, opening, is_context_call, objections, objections_to, refusal_of, unless_refused, with_windows, effect, effect_of, work_objections, context_objections, context_after, step_of_call, step, is_refused}
-use Rattle.gui_core.specs.Machines.{Machine, IsConfig, IsKept, Takes, TakesAlike, Counts, machine_for}
+use Rattle.gui_core.specs.Desks.{Desk, Step, Objection, opening_desk, is_context_call, objections, desk_objections, refusal_of, unless_refused, with_windows, after_job, after_jobs, effect, desk_effect, context_objections, context_after, is_drawing, is_refused}
+use Rattle.gui_core.specs.States.{State, desk_of, with_screen, buffer_objections, objections_to, on_desk, effect_of, step_of_call, step}
+use Rattle.gui_core.specs.Machines.{Machine, IsConfig, IsScreen, IsKept, Takes, Makes, Paints, Counts, machine_for}
 
 -- ---- one call
 
-pub refused_takes : (m : Machine) (actor : ℕ) (call : Call) (refusal : Refusal) → refusal_of (objections_to m.setup m.state actor call) ≡ Some refusal → Takes m actor call m (Refused refusal)
-refused_takes m actor call refusal e = record { rest = refl; step = sym (ap (λ o. unless_refused o m.state (effect_of m.setup m.state actor call)) e) }
+pub refused_takes : (m : Machine) (actor : ℕ) (call : Call) (refusal : Refusal) → refusal_of (desk_objections m.setup (desk_of m.state) actor call) ≡ Some refusal → Takes m actor call m (Refused refusal)
+refused_takes m actor call refusal e = record { rest = refl; screen = refl; step = sym (ap (λ o. unless_refused o (desk_of m.state) (desk_effect m.setup (desk_of m.state) actor call)) e) }
 
-pub done_takes : (m new : Machine) (actor : ℕ) (call : Call) (reply : Reply) (s : State) → refusal_of (objections_to m.setup m.state actor call) ≡ None → new ≡ record m { state = s } → ◌≡◌ {A = Step} (record { state = s; reply = reply }) (effect_of m.setup m.state actor call) → Takes m actor call new reply
-done_takes m new actor call reply s fine is done = record {
-  rest = is ∙ ap (λ (t : State). record m { state = t }) (sym (ap (λ (k : Machine). k.state) is));
+pub done_takes : (m new : Machine) (actor : ℕ) (call : Call) (reply : Reply) (t : State) → refusal_of (desk_objections m.setup (desk_of m.state) actor call) ≡ None → new ≡ record m { state = t } → t.screen ≡ m.state.screen
+    → ◌≡◌ {A = Step Desk} (record { state = desk_of t; reply = reply }) (desk_effect m.setup (desk_of m.state) actor call) → Takes m actor call new reply
+done_takes m new actor call reply t fine is same done = record {
+  rest = is ∙ ap (λ (s : State). record m { state = s }) (sym (ap (λ (k : Machine). k.state) is));
+  screen = ap (λ (k : Machine). k.state.screen) is ∙ same;
   step =
-      ap (λ (k : Machine). record { state = k.state; reply = reply }) is
+      ap (λ (k : Machine). record { state = desk_of k.state; reply = reply }) is
       ∙ done
-      ∙ sym (ap (λ o. unless_refused o m.state (effect_of m.setup m.state actor call)) fine);
+      ∙ sym (ap (λ o. unless_refused o (desk_of m.state) (desk_effect m.setup (desk_of m.state) actor call)) fine);
 }
 
-pub taken_by : (old new : Machine) (actor : ℕ) (call asked : Call) (reply : Reply) → call ≡ asked → TakesAlike old asked new reply → Takes old actor call new reply
-taken_by old new actor call asked reply same alike = subst (λ (x : Call). Takes old actor x new reply) (sym same) (alike.by actor)
+-- a call that draws nothing, begins nothing and ends nothing
+pub plainly : (old new : Machine) (actor : ℕ) (call : Call) (reply : Reply) → is_turn_call call ≡ false → is_drawing (desk_of old.state) actor call ≡ false → Takes old actor call new reply → Makes old actor call new reply
+plainly old new actor call reply other not takes = record { rest = takes.rest; step = plain_step_of old.setup old.state new.state actor call reply other not takes.screen takes.step }
+
+pub taken_by : (old new : Machine) (actor : ℕ) (call asked : Call) (reply : Reply) → call ≡ asked → is_turn_call asked ≡ false → is_drawing (desk_of old.state) actor asked ≡ false → Takes old actor asked new reply → Makes old actor call new reply
+taken_by old new actor call asked reply same other not takes = subst (λ (x : Call). Makes old actor x new reply) (sym same) (plainly old new actor asked reply other not takes)
+
+pub made_by : (old new : Machine) (actor : ℕ) (call asked : Call) (reply : Reply) → call ≡ asked → Makes old actor asked new reply → Makes old actor call new reply
+made_by old new actor call asked reply same makes = subst (λ (x : Call). Makes old actor x new reply) (sym same) makes
 
 -- a call that was counted, made, and counted once more where it was refused
-pub answered_by : (old counted taken new : Machine) (actor : ℕ) (call : Call) (reply : Reply) (n : ℕ) → counted ≡ record old { made = old.made + 1 } → Takes counted actor call taken reply → new ≡ record taken { refused = taken.refused + n } → n ≡ cond (is_refused reply) 1 0 → Counts old actor call new reply
+pub answered_by : (old counted taken new : Machine) (actor : ℕ) (call : Call) (reply : Reply) (n : ℕ) → counted ≡ record old { made = old.made + 1 } → Makes counted actor call taken reply → new ≡ record taken { refused = taken.refused + n } → n ≡ cond (is_refused reply) 1 0 → Counts old actor call new reply
 unfolding step
-answered_by old counted taken new actor call reply n once takes more count =
-    let rest = takes.rest in
+answered_by old counted taken new actor call reply n once makes more count =
+    let rest = makes.rest in
     record {
       setup = ap (λ (k : Machine). k.setup) more ∙ ap (λ (k : Machine). k.setup) rest ∙ ap (λ (k : Machine). k.setup) once;
       step =
           ap (λ (k : Machine). record { state = k.state; reply = reply }) more
-          ∙ takes.step
+          ∙ makes.step
           ∙ ap (λ (k : Machine). step_of_call k.setup k.state actor call) once;
       made = ap (λ (k : Machine). k.made) more ∙ ap (λ (k : Machine). k.made) rest ∙ ap (λ (k : Machine). k.made) once;
       refused = ap (λ (k : Machine). k.refused) more ∙ ap (λ (k : Machine). k.refused + n) rest ∙ ap (λ (k : Machine). k.refused + n) once ∙ ap (λ (k : ℕ). old.refused + k) count;
@@ -98,20 +121,26 @@ abbrev pub context_reason : Machine → ℕ → Call → Option Refusal
 context_reason m task call = refusal_of (context_objections (length m.setup.assets.fonts) m.state.windows m.state.devices.live (owned_by m.state.contexts task) call)
 
 -- what the core draws on
-abbrev pub surfaces_of : Machine → Surfaces
-surfaces_of m = record { shown = m.state.shown; devices = m.state.devices }
+abbrev pub panes_of : Machine → Panes
+panes_of m = record { buffers = m.buffers; width = m.width; height = m.height; screen = m.state.screen; devices = m.state.devices }
 
--- the core with other surfaces
-abbrev pub with_surfaces : Machine → Surfaces → Machine
-with_surfaces m s = record m { state = record m.state { shown = s.shown; devices = s.devices } }
+-- the core with other buffers and devices
+abbrev pub with_panes : Machine → Panes → Machine
+with_panes m p = record m { buffers = p.buffers; width = p.width; height = p.height; state = record m.state { screen = p.screen; devices = p.devices } }
 
 -- the first reason against work with a context
 abbrev pub work_reason : Machine → Context → Work → Option Refusal
-work_reason m c work = refusal_of (work_objections m.setup.assets m.state.windows m.state.devices.live c work)
+work_reason m c work = refusal_of (pane_objections m.setup.assets m.state.windows c work (panes_of m))
 
 -- the surfaces after it
 abbrev pub surfaces_with : Machine → Context → Work → Surfaces
-surfaces_with m c work = surfaces_after m.setup.assets (looks_of m.setup m.state.windows) m.state.windows c work (surfaces_of m)
+surfaces_with m c work = surfaces_after m.setup.assets (looks_of m.setup m.state.windows) m.state.windows c work (surfaces_of (panes_of m))
+
+-- the panes after it
+abbrev pub panes_with : Machine → Context → Work → Panes
+panes_with m c work =
+    let now = surfaces_with m c work in
+    record (panes_of m) { screen = cond (is_on_screen c work) (after_turn m.buffers now.picture m.state.screen) m.state.screen; devices = now.devices }
 
 -- what a task draws with
 abbrev pub context_of : Machine → ℕ → Context
@@ -129,32 +158,32 @@ performed m call (Ok done) now new kept p scene =
 performed m call (Err refusal) now new kept p scene = subst (λ (s : Scene). IsKept (with_scene m s)) (sym p.1) kept
 
 -- a call on windows is made by any actor alike
-of_windows : (m : Machine) (actor : ℕ) (call : Call) → IsOnWindows call → refusal_of (objections_to m.setup m.state actor call) ≡ reason_of m call
+of_windows : (m : Machine) (actor : ℕ) (call : Call) → IsOnWindows call → refusal_of (desk_objections m.setup (desk_of m.state) actor call) ≡ reason_of m call
 of_windows m actor call on = rw (on.0, on.1) refl
 
-does_to_windows : (m : Machine) (actor : ℕ) (call : Call) → IsOnWindows call → effect_of m.setup m.state actor call ≡ effect m.setup m.state call
+does_to_windows : (m : Machine) (actor : ℕ) (call : Call) → IsOnWindows call → desk_effect m.setup (desk_of m.state) actor call ≡ effect m.setup (desk_of m.state) call
 does_to_windows m actor call on = rw (on.0, on.1) refl
 
-pub done : (m : Machine) (actor : ℕ) (call : Call) (now : List Win) (new : Scene) → IsOnWindows call → reason_of m call ≡ None → new ≡ record (scene_of m) { windows = now } → ◌≡◌ {A = Step} (with_windows m.state now) (effect m.setup m.state call) → Takes m actor call (with_scene m new) Done
-done m actor call now new on fine is does = done_takes m (with_scene m new) actor call Done (record m.state { windows = now }) (of_windows m actor call on ∙ fine) (ap (with_scene m) is) (does ∙ sym (does_to_windows m actor call on))
+pub done : (m : Machine) (actor : ℕ) (call : Call) (now : List Win) (new : Scene) → IsOnWindows call → reason_of m call ≡ None → new ≡ record (scene_of m) { windows = now } → ◌≡◌ {A = Step Desk} (with_windows (desk_of m.state) now) (effect m.setup (desk_of m.state) call) → Takes m actor call (with_scene m new) Done
+done m actor call now new on fine is does = done_takes m (with_scene m new) actor call Done (record m.state { windows = now }) (of_windows m actor call on ∙ fine) (ap (with_scene m) is) refl (does ∙ sym (does_to_windows m actor call on))
 
 pub refused : (m : Machine) (actor : ℕ) (call : Call) (refusal : Refusal) (new : Scene) → IsOnWindows call → reason_of m call ≡ Some refusal → new ≡ scene_of m → Takes m actor call (with_scene m new) (Refused refusal)
 refused m actor call refusal new on why is =
     subst (λ (s : Scene). Takes m actor call (with_scene m s) (Refused refusal)) (sym is) (refused_takes m actor call refusal (of_windows m actor call on ∙ why))
 
-pub answers : (m : Machine) (actor : ℕ) (call : Call) (r : Result (Unit {0}) Refusal) (now : List Win) (new : Scene) → IsOnWindows call → Performs r (reason_of m call) now (scene_of m) new → ◌≡◌ {A = Step} (with_windows m.state now) (effect m.setup m.state call) → Takes m actor call (with_scene m new) (answered r)
+pub answers : (m : Machine) (actor : ℕ) (call : Call) (r : Result (Unit {0}) Refusal) (now : List Win) (new : Scene) → IsOnWindows call → Performs r (reason_of m call) now (scene_of m) new → ◌≡◌ {A = Step Desk} (with_windows (desk_of m.state) now) (effect m.setup (desk_of m.state) call) → Takes m actor call (with_scene m new) (answered r)
 answers m actor call (Ok d) now new on p does = done m actor call now new on p.0 p.1 does
 answers m actor call (Err refusal) now new on p does = refused m actor call refusal new on p.0 p.1
 
 -- the same, told of the machine that the call found, and of the reply
-pub replied : (old m : Machine) (actor : ℕ) (call : Call) (r : Result (Unit {0}) Refusal) (now : List Win) (new : Scene) (reply : Reply) → IsOnWindows call → m ≡ old → reply ≡ answered r → Performs r (reason_of m call) now (scene_of m) new → ◌≡◌ {A = Step} (with_windows m.state now) (effect m.setup m.state call) → Takes old actor call (with_scene m new) reply
+pub replied : (old m : Machine) (actor : ℕ) (call : Call) (r : Result (Unit {0}) Refusal) (now : List Win) (new : Scene) (reply : Reply) → IsOnWindows call → m ≡ old → reply ≡ answered r → Performs r (reason_of m call) now (scene_of m) new → ◌≡◌ {A = Step Desk} (with_windows (desk_of m.state) now) (effect m.setup (desk_of m.state) call) → Takes old actor call (with_scene m new) reply
 replied old m actor call r now new reply on is said p does =
     subst (λ (a : Reply). Takes old actor call (with_scene m new) a) (sym said)
     (subst (λ (k : Machine). Takes k actor call (with_scene m new) (answered r)) is (answers m actor call r now new on p does))
 
 -- the same for a call on a context
 altered : (m : Machine) (task : ℕ) (call : Call) (r : Result (Unit {0}) Refusal) (new : List Owned) → is_context_call call ≡ true → Alters r (context_reason m task call) (context_after (owned_by m.state.contexts task) call) task m.state.contexts new → Takes m task call (with_contexts m new) (answered r)
-altered m task call (Ok d) new is p = done_takes m (with_contexts m new) task call Done (record m.state { contexts = new }) (rw is p.0) refl (rw (is, p.1) refl)
+altered m task call (Ok d) new is p = done_takes m (with_contexts m new) task call Done (record m.state { contexts = new }) (rw is p.0) refl refl (rw (is, p.1) refl)
 altered m task call (Err refusal) new is p =
     subst (λ (cs : List Owned). Takes m task call (with_contexts m cs) (Refused refusal)) (sym p.1) (refused_takes m task call refusal (rw is p.0))
 
@@ -163,36 +192,93 @@ context_replied old m task call r new reply is same said p =
     subst (λ (a : Reply). Takes old task call (with_contexts m new) a) (sym said)
     (subst (λ (k : Machine). Takes k task call (with_contexts m new) (answered r)) same (altered m task call r new is p))
 
--- work on the windows that are lent, on a picture of the screen's sides
-pub drawn : (m : Machine) (c : Context) (work : Work) (lent : List Win) (r : Result (Unit {0}) Refusal) (new : Surfaces) → IsKept m → lent ≡ m.state.windows → let old = surfaces_of m in
-    Draws r (refusal_of (work_objections m.setup.assets lent old.devices.live c work)) (surfaces_after m.setup.assets (looks_on m.setup.assets (screen_with old.shown.width old.shown.height) lent) lent c work old) old new → Draws r (work_reason m c work) (surfaces_with m c work) old new
+-- work on the windows that are lent, on buffers of the screen's sides
+pub drawn : (m : Machine) (c : Context) (work : Work) (lent : List Win) (r : Result (Unit {0}) Refusal) (new : Panes) → IsKept m → lent ≡ m.state.windows
+    → Draws r (refusal_of (pane_objections m.setup.assets lent c work (panes_of m))) (panes_after m.setup.assets lent c work (panes_of m)) (panes_of m) new → Draws r (work_reason m c work) (panes_with m c work) (panes_of m) new
 drawn m c work lent r new kept same p =
     let setup = m.setup in
     let ws = m.state.windows in
-    let old = surfaces_of m in
-    let looks = ap (λ (n : ℕ). looks_on setup.assets (screen_with n old.shown.height) ws) kept.width ∙ ap (λ (n : ℕ). looks_on setup.assets (screen_with setup.config.w n) ws) kept.height in
-    subst (λ (seen : Looks). Draws r (work_reason m c work) (surfaces_after setup.assets seen ws c work old) old new) looks (rw same at p)
+    let old = panes_of m in
+    let after : Looks → Panes = λ seen. let now = surfaces_after setup.assets seen ws c work (surfaces_of old) in record old { screen = cond (is_on_screen c work) (after_turn old.buffers now.picture old.screen) old.screen; devices = now.devices } in
+    let looks = ap (λ (n : ℕ). looks_on setup.assets (screen_with n old.height) ws) kept.width ∙ ap (λ (n : ℕ). looks_on setup.assets (screen_with setup.config.w n) ws) kept.height in
+    subst (λ (seen : Looks). Draws r (work_reason m c work) (after seen) old new) looks (rw same at p)
 
-worked : (m : Machine) (task : ℕ) (call : Call) (work : Work) (r : Result (Unit {0}) Refusal) (new : Surfaces) → IsWork call work → reply_to m.state.devices work ≡ Done → Draws r (work_reason m (context_of m task) work) (surfaces_with m (context_of m task) work) (surfaces_of m) new → Takes m task call (with_surfaces m new) (answered r)
-worked m task call work (Ok d) new is reply p =
-    done_takes m (with_surfaces m new) task call Done (record m.state { shown = new.shown; devices = new.devices }) (rw (is.0, is.1) p.0) refl (rw (is.0, is.1, p.1, reply) refl)
-worked m task call work (Err refusal) new is reply p =
-    subst (λ (s : Surfaces). Takes m task call (with_surfaces m s) (Refused refusal)) (sym p.1) (refused_takes m task call refusal (rw (is.0, is.1) p.0))
+buffers_if : (n : ℕ) (s : State) (actor : ℕ) (call : Call) → is_turn_call call ≡ false → buffer_objections n s actor call ≡ cond (is_drawing (desk_of s) actor call) (none_free n s.screen) []
+buffers_if n s actor Begin other = absurd cc
+buffers_if n s actor End other = absurd cc
+buffers_if n s actor call other = refl
 
-pub work_replied : (old m : Machine) (task : ℕ) (c : Context) (call : Call) (work : Work) (r : Result (Unit {0}) Refusal) (new : Surfaces) (reply : Reply) → IsWork call work → reply_to m.state.devices work ≡ Done → c ≡ context_of m task → m ≡ old → reply ≡ answered r
-    → Draws r (work_reason m c work) (surfaces_with m c work) (surfaces_of m) new → Takes old task call (with_surfaces m new) reply
-work_replied old m task c call work r new reply is done own same said p =
-    let drawn_with = subst (λ (k : Context). Draws r (work_reason m k work) (surfaces_with m k work) (surfaces_of m) new) own p in
-    subst (λ (a : Reply). Takes old task call (with_surfaces m new) a) (sym said)
-    (subst (λ (k : Machine). Takes k task call (with_surfaces m new) (answered r)) same (worked m task call work r new is done drawn_with))
+-- a call that asks for work, and whether it draws on the screen
+pub record AsksFor (call : Call) (work : Work) : Type 0 where
+  pub is : IsWork call work
+  pub other : is_turn_call call ≡ false
+  pub draws : (d : Desk) (actor : ℕ) → is_drawing d actor call ≡ is_on_screen (owned_by d.contexts actor).context work
 
-pub work_kept : (m : Machine) (c : Context) (work : Work) (r : Result (Unit {0}) Refusal) (new : Surfaces) → IsKept m → (devices_after m.setup.assets c work m.state.devices).handles ≤ m.made → Draws r (work_reason m c work) (surfaces_with m c work) (surfaces_of m) new → IsKept (with_surfaces m new)
-work_kept m c work (Ok d) new kept few p =
-    let looks = looks_of m.setup m.state.windows in
-    let ink = ink_of m.setup.assets m.state.devices c work in
-    subst (λ (s : Surfaces). IsKept (with_surfaces m s)) (sym p.1)
-    (kept-with m m.state.windows m.state.handles _ m.state.contexts _ kept kept.scene kept.handles few (width-ink looks m.state.windows c ink m.state.shown) (height-ink looks m.state.windows c ink m.state.shown))
-work_kept m c work (Err refusal) new kept few p = subst (λ (s : Surfaces). IsKept (with_surfaces m s)) (sym p.1) kept
+pub draws_shape : (shape : Shape) → AsksFor (stroke_call shape) (Draw shape)
+draws_shape (shape.Fill x0 y0 x1 y1) = record { is = (refl, refl); other = refl; draws = λ d actor. refl }
+draws_shape (shape.Frame x0 y0 x1 y1) = record { is = (refl, refl); other = refl; draws = λ d actor. refl }
+draws_shape (shape.Line x0 y0 x1 y1) = record { is = (refl, refl); other = refl; draws = λ d actor. refl }
+draws_shape (shape.Bitmap bitmap x y) = record { is = (refl, refl); other = refl; draws = λ d actor. refl }
+draws_shape (shape.Text x y string) = record { is = (refl, refl); other = refl; draws = λ d actor. refl }
+
+pub copies_device : (device : ℕ) (x y : ℤ) → AsksFor (DevCopy device x y) (Copy device x y)
+copies_device device x y = record { is = (refl, refl); other = refl; draws = λ d actor. refl }
+
+work_held : (m : Machine) (task : ℕ) (call : Call) (work : Work) → IsKept m → AsksFor call work → objections_to m.setup m.state task call ≡ pane_objections m.setup.assets m.state.windows (context_of m task) work (panes_of m)
+work_held m task call work kept asks =
+    let s = m.state in
+    ap (λ (rest : List Objection). desk_objections m.setup (desk_of s) task call ++ rest) (buffers_if m.setup.config.buffers s task call asks.other)
+    ∙ ap (λ (b : Bool). desk_objections m.setup (desk_of s) task call ++ cond b (none_free m.setup.config.buffers s.screen) []) (asks.draws (desk_of s) task)
+    ∙ ap (λ (n : ℕ). desk_objections m.setup (desk_of s) task call ++ cond (is_on_screen (context_of m task) work) (none_free n s.screen) []) (sym kept.buffers)
+    ∙ rw (asks.is.0, asks.is.1) refl
+
+work_effect : (m : Machine) (task : ℕ) (call : Call) (work : Work) → IsKept m → AsksFor call work → effect_of m.setup m.state task call ≡ record { state = (with_panes m (panes_with m (context_of m task) work)).state; reply = reply_to m.state.devices work }
+work_effect m task call work kept asks =
+    let s = m.state in
+    desk_effect_is m.setup s task call asks.other
+    ∙ ap (λ (b : Bool). on_desk m.setup.config.buffers b s.screen (desk_effect m.setup (desk_of s) task call)) (asks.draws (desk_of s) task)
+    ∙ ap (λ (n : ℕ). on_desk n (is_on_screen (context_of m task) work) s.screen (desk_effect m.setup (desk_of s) task call)) (sym kept.buffers)
+    ∙ rw (asks.is.0, asks.is.1) refl
+
+worked : (m : Machine) (task : ℕ) (call : Call) (work : Work) (r : Result (Unit {0}) Refusal) (new : Panes) → IsKept m → AsksFor call work → reply_to m.state.devices work ≡ Done → Draws r (work_reason m (context_of m task) work) (panes_with m (context_of m task) work) (panes_of m) new → Makes m task call (with_panes m new) (answered r)
+worked m task call work (Ok d) new kept asks reply p =
+    let held = work_held m task call work kept asks in
+    record {
+      rest = ap (with_panes m) p.1 ∙ sym (ap (λ (k : Panes). record m { state = (with_panes m k).state }) p.1);
+      step =
+          ap (λ (k : Panes). record { state = (with_panes m k).state; reply = Done }) p.1
+          ∙ ap (λ (a : Reply). record { state = (with_panes m (panes_with m (context_of m task) work)).state; reply = a }) (sym reply)
+          ∙ sym (work_effect m task call work kept asks)
+          ∙ sym (ap (λ o. unless_refused o m.state (effect_of m.setup m.state task call)) (ap refusal_of held ∙ p.0));
+    }
+worked m task call work (Err refusal) new kept asks reply p =
+    let held = work_held m task call work kept asks in
+    subst (λ (k : Panes). Makes m task call (with_panes m k) (Refused refusal)) (sym p.1) (record {
+      rest = refl;
+      step = sym (ap (λ o. unless_refused o m.state (effect_of m.setup m.state task call)) (ap refusal_of held ∙ p.0));
+    })
+
+pub work_replied : (old m : Machine) (task : ℕ) (c : Context) (call : Call) (work : Work) (r : Result (Unit {0}) Refusal) (new : Panes) (reply : Reply) → IsKept m → AsksFor call work → reply_to m.state.devices work ≡ Done → c ≡ context_of m task → m ≡ old → reply ≡ answered r
+    → Draws r (work_reason m c work) (panes_with m c work) (panes_of m) new → Makes old task call (with_panes m new) reply
+work_replied old m task c call work r new reply kept asks done own same said p =
+    let drawn_with = subst (λ (k : Context). Draws r (work_reason m k work) (panes_with m k work) (panes_of m) new) own p in
+    subst (λ (a : Reply). Makes old task call (with_panes m new) a) (sym said)
+    (subst (λ (k : Machine). Makes k task call (with_panes m new) (answered r)) same (worked m task call work r new kept asks done drawn_with))
+
+pub work_kept : (m : Machine) (c : Context) (work : Work) (r : Result (Unit {0}) Refusal) (new : Panes) → IsKept m → m.state.screen.switches < m.made → (devices_after m.setup.assets c work m.state.devices).handles ≤ m.made → Draws r (work_reason m c work) (panes_with m c work) (panes_of m) new → IsKept (with_panes m new)
+work_kept m c work (Ok d) new kept room few p =
+    let p_now = (surfaces_with m c work).picture in
+    subst (λ (k : Panes). IsKept (with_panes m k)) (sym p.1)
+    (kept-with m m.state.windows m.state.handles _ m.state.contexts _ kept kept.scene kept.handles few (turned_if (is_on_screen c work) m.buffers p_now m.state.screen kept.screen) (asked_if (is_on_screen c work) m.buffers p_now m.state.screen m.made room))
+  where
+    turned_if : (b : Bool) (n : ℕ) (q : Picture) (s : Screen) → IsScreen n s → IsScreen n (cond b (after_turn n q s) s)
+    turned_if true n q s is = screen-turn n q s is
+    turned_if false n q s is = is
+
+    asked_if : (b : Bool) (n : ℕ) (q : Picture) (s : Screen) (made : ℕ) → s.switches < made → (cond b (after_turn n q s) s).switches ≤ made
+    asked_if true n q s made room = let owes = owes-turn n q s in let more = owes.switches in omega (arith, more, room)
+    asked_if false n q s made room = omega (arith, room)
+work_kept m c work (Err refusal) new kept room few p = subst (λ (k : Panes). IsKept (with_panes m k)) (sym p.1) kept
 
 -- the same for a new window
 pub created_kept : (m : Machine) (parent : ℕ) (x y : ℤ) (w h class : ℕ) (r : Result ℕ Refusal) (new : Scene) → IsKept m → m.state.handles ≤ m.made → Creates r (reason_of m (Create parent x y w h class)) (made_windows m parent x y w h class) (scene_of m) new → IsKept (with_scene m new)
@@ -200,12 +286,12 @@ created_kept m parent x y w h class (Ok handle) new kept few p =
     let made = may_be_made (length m.setup.assets.classes) m.state.windows parent x y w h class p.0 in
     let is = is_new m.setup m.state.windows m.state.handles parent x y w h class kept.scene made in
     subst (λ (s : Scene). IsKept (with_scene m s)) (sym p.2)
-    (kept-with m (made_windows m parent x y w h class) (m.state.handles + 1) m.state.shown m.state.contexts m.state.devices kept
+    (kept-with m (made_windows m parent x y w h class) (m.state.handles + 1) m.state.screen m.state.contexts m.state.devices kept
     (scene_after m.setup (m.state.handles + 1) (m.state.handles + 1) m.state.windows _ (scene_created m.setup m.state.windows m.state.handles (new_window (m.state.handles + 1) parent x y w h class) made.over' kept.scene is refl made.known))
-    (omega arith) kept.devices refl refl)
+    (omega arith) kept.devices kept.screen kept.switches)
 created_kept m parent x y w h class (Err refusal) new kept few p = subst (λ (s : Scene). IsKept (with_scene m s)) (sym p.1) kept
 
--- ---- opening
+-- ---- opening_desk
 
 same_operation : (assets : Assets) (classes : List Class) (o : Op) → IsOperation assets o → IsOperation (record assets { classes = classes }) o
 same_operation assets classes (op.Fill x0 y0 x1 y1 colour) is = is
@@ -260,7 +346,7 @@ shallow_desktop : (d : Win) → d.parent ≡ 0 → d.handle ≡ 1 → IsShallow 
 unfolding has_ancestors
 shallow_desktop d root handle = rw (root, handle) refl
 
-pub scene_opening : (setup : Setup) → IsConfig setup.config → 1 ≤ length setup.assets.classes → IsScene setup (opening setup).windows 1
+pub scene_opening : (setup : Setup) → IsConfig setup.config → 1 ≤ length setup.assets.classes → IsScene setup (opening_desk setup).windows 1
 scene_opening setup is desktop =
     let config = setup.config in
     let d : Win = desktop_with config.w config.h (screen_of setup) in
@@ -286,15 +372,145 @@ kept-starting assets config is sound desktop =
       config = is;
       assets = sound-with_desktop assets config.desktop sound;
       has_desktop = omega (arith, count, desktop);
+      buffers = refl;
+      screen = screen-showing config.buffers _;
       width = refl;
       height = refl;
       scene = scene_opening (setup_for assets config) is (omega (arith, count, desktop));
       handles = omega arith;
       devices = omega arith;
+      switches = omega arith;
       made = omega arith;
       refused = omega arith;
     }
 
-pub started : (given kept : Assets) (config : Config) (surfaces : Surfaces) (windows : Scene) (contexts : List Owned) → kept ≡ assets_with_desktop config.desktop given → surfaces ≡ record { shown = picture_of config.w config.h (λ x y. 0); devices = no_device_pictures } → windows ≡ record { windows = desktop_with config.w config.h (screen_with config.w config.h) ∷ []; handles = 1 } → contexts ≡ first_contexts
-    → ◌≡◌ {A = Machine} (record { setup = record { config = config; assets = kept }; state = record { windows = windows.windows; handles = windows.handles; shown = surfaces.shown; contexts = contexts; devices = surfaces.devices }; made = 0; refused = 0 }) (machine_for given config)
-started given kept config surfaces windows contexts assets drawn_on is first = rw (assets, drawn_on, is, first) refl
+pub started : (given kept : Assets) (config : Config) (panes : Panes) (windows : Scene) (contexts : List Owned) → kept ≡ assets_with_desktop config.desktop given
+    → panes ≡ record { buffers = config.buffers; width = config.w; height = config.h; screen = showing (picture_of config.w config.h (λ x y. 0)); devices = no_device_pictures }
+    → windows ≡ record { windows = desktop_with config.w config.h (screen_with config.w config.h) ∷ []; handles = 1 } → contexts ≡ first_contexts
+    → ◌≡◌ {A = Machine} (record { setup = record { config = config; assets = kept }; buffers = panes.buffers; width = panes.width; height = panes.height; state = record { windows = windows.windows; handles = windows.handles; screen = panes.screen; contexts = contexts; devices = panes.devices }; made = 0; refused = 0 }) (machine_for given config)
+started given kept config panes windows contexts assets drawn_on is first = rw (assets, drawn_on, is, first) refl
+
+-- ---- a call that paints, on what it begins or what was begun
+
+-- what is held against it is what is held against its begin
+held_when_drawing : (m : Machine) (actor : ℕ) (call : Call) → m.buffers ≡ m.setup.config.buffers → is_turn_call call ≡ false → is_drawing (desk_of m.state) actor call ≡ true → refusal_of (desk_objections m.setup (desk_of m.state) actor call) ≡ None → refusal_of (objections_to m.setup m.state actor call) ≡ refusal_of (none_free m.buffers m.state.screen)
+held_when_drawing m actor call same other drawing fine =
+    refused_next (desk_objections m.setup (desk_of m.state) actor call) (buffer_objections m.setup.config.buffers m.state actor call) fine
+    ∙ ap refusal_of (buffers_if m.setup.config.buffers m.state actor call other)
+    ∙ ap (λ (b : Bool). refusal_of (cond b (none_free m.setup.config.buffers m.state.screen) [])) drawing
+    ∙ ap (λ (n : ℕ). refusal_of (none_free n m.state.screen)) (sym same)
+
+none_held_when_free : (m : Machine) (actor : ℕ) (call : Call) → m.buffers ≡ m.setup.config.buffers → is_turn_call call ≡ false → is_drawing (desk_of m.state) actor call ≡ true → refusal_of (desk_objections m.setup (desk_of m.state) actor call) ≡ None → refusal_of (none_free m.buffers m.state.screen) ≡ None → refusal_of (objections_to m.setup m.state actor call) ≡ None
+none_held_when_free m actor call same other drawing fine free = held_when_drawing m actor call same other drawing fine ∙ free
+
+-- what it began, painted and ended is a turn of its own, or nothing of its own
+pub turn_makes : (old mid last new : Machine) (actor : ℕ) (call : Call) (own : Bool) (jobs : ℕ) (d : Desk) (reply : Reply) → old.buffers ≡ old.setup.config.buffers → is_turn_call call ≡ false → is_drawing (desk_of old.state) actor call ≡ true → refusal_of (desk_objections old.setup (desk_of old.state) actor call) ≡ None
+    → ◌≡◌ {A = Step Desk} (record { state = d; reply = reply }) (desk_effect old.setup (desk_of old.state) actor call) → eqb jobs 0 ≡ false → Begins (Ok own) old.buffers old.state.screen mid.state.screen → mid ≡ record old { state = record old.state { screen = mid.state.screen } } → Paints mid jobs d last
+    → new ≡ record last { state = record last.state { screen = ended own last.state.screen } } → Makes old actor call new reply
+turn_makes old mid last new actor call own jobs d reply buffers other drawing fine done some begins is_mid paints is_new =
+    let setup = old.setup in
+    let n = old.buffers in
+    let sc = old.state.screen in
+    let same : mid.buffers ≡ n = ap (λ (k : Machine). k.buffers) is_mid in
+    let screen : last.state.screen ≡ after_draw n d.picture (begun n sc) =
+    paints.screen
+    ∙ ap (λ (b : Bool). cond b mid.state.screen (after_draw mid.buffers d.picture mid.state.screen)) some
+    ∙ ap (λ (k : ℕ). after_draw k d.picture mid.state.screen) same
+    ∙ ap (after_draw n d.picture) begins.2 in
+    let turned : ended own last.state.screen ≡ after_turn n d.picture sc =
+    ap (λ (b : Bool). ended b last.state.screen) begins.1 ∙ ap (ended (eqb sc.count 0)) screen ∙ turn_is n d.picture sc in
+    let state : new.state ≡ with_screen d (after_turn n d.picture sc) =
+    ap (λ (k : Machine). k.state) is_new
+    ∙ ap (λ (s : Screen). record last.state { screen = s }) turned
+    ∙ ap (λ (k : Desk). with_screen k (after_turn n d.picture sc)) paints.desk in
+    let held = none_held_when_free old actor call buffers other drawing fine begins.0 in
+    record {
+      rest = rest_of_turn;
+      step =
+          ap (λ (s : State). record { state = s; reply = reply }) state
+          ∙ ap (λ (k : ℕ). record { state = with_screen d (after_turn k d.picture sc); reply = reply }) buffers
+          ∙ ap (on_desk setup.config.buffers true sc) done
+          ∙ sym (ap (λ (b : Bool). on_desk setup.config.buffers b sc (desk_effect setup (desk_of old.state) actor call)) drawing)
+          ∙ sym (desk_effect_is setup old.state actor call other)
+          ∙ sym (ap (λ o. unless_refused o old.state (effect_of setup old.state actor call)) held);
+    }
+  where
+    rest_of_turn : new ≡ record old { state = new.state }
+    rest_of_turn =
+        is_new
+        ∙ ap (λ (k : Machine). record k { state = record last.state { screen = ended own last.state.screen } }) paints.rest
+        ∙ ap (λ (k : Machine). record k { state = record last.state { screen = ended own last.state.screen } }) is_mid
+        ∙ ap (λ (s : State). record old { state = s }) (sym (ap (λ (k : Machine). k.state) is_new))
+
+-- it is refused while none is free
+pub turn_refused : (old mid : Machine) (actor : ℕ) (call : Call) (refusal : Refusal) → old.buffers ≡ old.setup.config.buffers → is_turn_call call ≡ false → is_drawing (desk_of old.state) actor call ≡ true → refusal_of (desk_objections old.setup (desk_of old.state) actor call) ≡ None
+    → Begins (Err refusal) old.buffers old.state.screen mid.state.screen → mid ≡ record old { state = record old.state { screen = mid.state.screen } } → Makes old actor call mid (Refused refusal)
+turn_refused old mid actor call refusal buffers other drawing fine begins is_mid =
+    let unchanged : mid ≡ old = is_mid ∙ ap (λ (s : Screen). record old { state = record old.state { screen = s } }) begins.1 in
+    subst (λ (k : Machine). Makes old actor call k (Refused refusal)) (sym unchanged) (record {
+      rest = refl;
+      step = sym (ap (λ o. unless_refused o old.state (effect_of old.setup old.state actor call)) (held_when_drawing old actor call buffers other drawing fine ∙ begins.0));
+    })
+
+-- ---- exec
+
+-- a begin leaves the desk
+same_begun : (old mid : Machine) (own : Bool) → Begins (Ok own) old.buffers old.state.screen mid.state.screen → mid ≡ record old { state = record old.state { screen = mid.state.screen } } → desk_of mid.state ≡ desk_of old.state
+same_begun old mid own begins is_mid =
+    ap (λ (k : Machine). desk_of k.state) is_mid
+    ∙ ap (λ (p : Picture). record (desk_of old.state) { picture = p }) (ap latest begins.2 ∙ latest-begun old.buffers old.state.screen)
+
+-- where no window is invalid
+pub exec_idle : (m : Machine) (actor : ℕ) → position is_invalid m.state.windows ≡ None → Makes m actor Exec m (Jobs 0)
+exec_idle m actor none =
+    plainly m m actor Exec (Jobs 0) refl (none_invalid_any m.state.windows none)
+    (record { rest = refl; screen = refl; step = ap (λ (n : ℕ). record { state = after_jobs m.setup n (desk_of m.state); reply = Jobs n }) (sym (no_jobs m.state.windows none)) })
+
+pub exec1_idle : (m : Machine) (actor : ℕ) → position is_invalid m.state.windows ≡ None → Makes m actor Exec1 m (Jobs 0)
+exec1_idle m actor none =
+    let not = none_invalid_any m.state.windows none in
+    plainly m m actor Exec1 (Jobs 0) refl not
+    (record { rest = refl; screen = refl; step = ap (λ (b : Bool). record { state = after_jobs m.setup (cond b 1 0) (desk_of m.state); reply = Jobs (cond b 1 0) }) (sym not) })
+
+-- all jobs, in a turn
+pub exec_makes : (old mid last new : Machine) (actor which : ℕ) (own : Bool) (jobs : ℕ) → old.buffers ≡ old.setup.config.buffers → position is_invalid old.state.windows ≡ Some which → Begins (Ok own) old.buffers old.state.screen mid.state.screen → mid ≡ record old { state = record old.state { screen = mid.state.screen } }
+    → jobs ≡ jobs_of mid.state.windows → Paints mid jobs (after_jobs mid.setup (jobs_of mid.state.windows) (desk_of mid.state)) last → new ≡ record last { state = record last.state { screen = ended own last.state.screen } } → Makes old actor Exec new (Jobs jobs)
+exec_makes old mid last new actor which own jobs buffers first begins is_mid count paints is_new =
+    let total = after_jobs old.setup (jobs_of old.state.windows) (desk_of old.state) in
+    let same : after_jobs mid.setup (jobs_of mid.state.windows) (desk_of mid.state) ≡ total =
+    ap (λ (d : Desk). after_jobs mid.setup (jobs_of d.windows) d) (same_begun old mid own begins is_mid)
+    ∙ ap (λ (k : Machine). after_jobs k.setup (jobs_of old.state.windows) (desk_of old.state)) is_mid in
+    let all : jobs ≡ jobs_of old.state.windows = count ∙ ap (λ (k : Machine). jobs_of k.state.windows) is_mid in
+    let more = jobs-more old.state.windows which first in
+    turn_makes old mid last new actor Exec own jobs total (Jobs jobs) buffers refl (some_invalid old.state.windows which first) refl
+    (ap (λ (n : ℕ). record { state = total; reply = Jobs n }) all)
+    (ne_eqb jobs 0 (λ none. absurd (omega (arith, none, all, more))))
+    begins is_mid (subst (λ (d : Desk). Paints mid jobs d last) same paints) is_new
+
+-- the first one, in a turn
+pub exec1_makes : (old mid last new : Machine) (actor which : ℕ) (own : Bool) → old.buffers ≡ old.setup.config.buffers → position is_invalid old.state.windows ≡ Some which → Begins (Ok own) old.buffers old.state.screen mid.state.screen → mid ≡ record old { state = record old.state { screen = mid.state.screen } }
+    → Paints mid 1 (after_job mid.setup (desk_of mid.state)) last → new ≡ record last { state = record last.state { screen = ended own last.state.screen } } → Makes old actor Exec1 new (Jobs 1)
+exec1_makes old mid last new actor which own buffers first begins is_mid paints is_new =
+    let d = after_job old.setup (desk_of old.state) in
+    let same : after_job mid.setup (desk_of mid.state) ≡ d =
+    ap (after_job mid.setup) (same_begun old mid own begins is_mid) ∙ ap (λ (k : Machine). after_job k.setup (desk_of old.state)) is_mid in
+    let invalid = some_invalid old.state.windows which first in
+    turn_makes old mid last new actor Exec1 own 1 d (Jobs 1) buffers refl invalid refl
+    (ap (λ (b : Bool). record { state = after_jobs old.setup (cond b 1 0) (desk_of old.state); reply = Jobs (cond b 1 0) }) (sym invalid)) refl
+    begins is_mid (subst (λ (k : Desk). Paints mid 1 k last) same paints) is_new
+
+-- a turn that may not begin
+pub exec_waits : (old mid : Machine) (actor which : ℕ) (refusal : Refusal) → old.buffers ≡ old.setup.config.buffers → position is_invalid old.state.windows ≡ Some which → Begins (Err refusal) old.buffers old.state.screen mid.state.screen → mid ≡ record old { state = record old.state { screen = mid.state.screen } } → Makes old actor Exec mid (Refused refusal)
+exec_waits old mid actor which refusal buffers first begins is_mid = turn_refused old mid actor Exec refusal buffers refl (some_invalid old.state.windows which first) refl begins is_mid
+
+pub exec1_waits : (old mid : Machine) (actor which : ℕ) (refusal : Refusal) → old.buffers ≡ old.setup.config.buffers → position is_invalid old.state.windows ≡ Some which → Begins (Err refusal) old.buffers old.state.screen mid.state.screen → mid ≡ record old { state = record old.state { screen = mid.state.screen } } → Makes old actor Exec1 mid (Refused refusal)
+exec1_waits old mid actor which refusal buffers first begins is_mid = turn_refused old mid actor Exec1 refusal buffers refl (some_invalid old.state.windows which first) refl begins is_mid
+
+-- where there is a first one
+pub some_first : (o : Option ℕ) → is_some o ≡ true → (which : ℕ) × (o ≡ Some which)
+some_first None is = absurd cc
+some_first (Some which) is = (which, refl)
+
+pub none_first : (o : Option ℕ) → is_some o ≡ false → o ≡ None
+none_first None is = refl
+none_first (Some which) is = absurd cc

@@ -1,9 +1,8 @@
 -- The damage covers every change: outside it the picture is the painter's.
 use Rattle.std.proofs.Common.{◌≡◌, ◌≢◌, ℕ, ℤ, pos, zero, suc, ◌+◌, ◌+ℤ◌, ◌-ℤ◌, ◌<◌, Bool, true, false, cond, eqb, List, [], ◌∷◌, length, map, Option, Some, None, refl, sym, ap, subst, ◌∙◌, inl, inr, arith}
-use Rattle.std.specs.Prelude.{is_some, position}
-use Rattle.std.specs.List.{list_any, AllByRecursion, AllZip}
-use Rattle.std.specs.Option.{option_map_or}
-use Rattle.std.proofs.lemmas.Bool.{cases_Bool, or_parts, or_from, and_right, and_from, false≢true}
+use Rattle.std.specs.Prelude.{position}
+use Rattle.std.specs.List.{list_any, AllZip}
+use Rattle.std.proofs.lemmas.Bool.{cases_Bool, or_parts, and_from, false≢true}
 use Rattle.std.proofs.lemmas.Int.{ints}
 use Rattle.std.proofs.lemmas.List.{length-map}
 use Rattle.gfx_base.specs.declared.point.Point.{Point}
@@ -15,33 +14,27 @@ use Rattle.context.specs.Contexts.{Owned, owned_by}
 use Rattle.scene.specs.declared.win.Win.{Win}
 use Rattle.scene.specs.Places.{Place, window_of, place_at}
 use Rattle.scene.specs.Clips.{deepest_level, frame_of, clip_of, clip_in}
-use Rattle.scene.specs.Painting.{Looks, painted}
-use Rattle.scene.specs.Damage.{some_has, is_invalid_at, is_seen, is_damaged, grown, invalidated}
+use Rattle.scene.specs.Painting.{Looks}
+use Rattle.scene.specs.Damage.{some_has, grown, invalidated}
 use Rattle.scene.specs.Changes.{DamageCovers, clips_have, ChangesAlone}
 use Rattle.scene.specs.Families.{new_window, desktop_with, on_top_of, moved_to, resized_to, with_shown, window_changed}
 use Rattle.scene.proofs.CallerLemmas.{bare, bare-area, AreasCover-areas, DamageCovers-alone, clips_have-found}
 use Rattle.win_tree.proofs.CallerLemmas.{IsNew}
 use Rattle.calls.specs.declared.call.Call.{Call}
 use Rattle.calls.specs.declared.call.Call.TheVariants.{Create, Delete, MoveTo, MoveBy, Resize, Show, Hide, ToTop, ToBottom, SetClass, Invalidate, InvalidateRect, InvalidateArea, Exec, Exec1, Scan, SetTrans, SetMemdev, SetValue, Send, Fill, Frame, Line, Bitmap, Text, DevCreate, DevDelete, DevCopy}
-use Rattle.calls.specs.declared.entry.Entry.{Entry}
-use Rattle.calls.specs.declared.entry.Entry.TheVariants as entry
-use Rattle.calls.specs.declared.reply.Refusal.{Refusal}
-use Rattle.frame.specs.Pictures.{Picture, colour_at}
-use Rattle.frame.proofs.CallerLemmas.{colour_at-picture_of}
+use Rattle.frame.specs.Pictures.{Picture}
 use Rattle.gui_core.specs.declared.change.Change.{Change}
 use Rattle.gui_core.specs.declared.change.Change.TheVariants as change
-use Rattle.gui_core.specs.Setups.{Setup, screen_of, looks_of, painter}
+use Rattle.gui_core.specs.Setups.{Setup, screen_of, looks_of}
 use Rattle.gui_core.specs.Windows.{moved_by, with_class, after_change, with_invalid_window, with_invalid_rect, with_invalid_area, with_trans, with_memdev, with_value, with_message}
 use Rattle.gui_core.specs.Changes.{list_after}
 use Rattle.invalidate.specs.Invalidation.{is_invalid, on_screen}
 use Rattle.gui_core.specs.Jobs.{jobs_of}
-use Rattle.gui_core.specs.States.{State, Step, latest, opening, is_context_call, objections, objections_to, bad_size, no_class, refusal_of, unless_refused, changed, created, after_job, after_jobs, rect_with, effect, effect_of, context_after, with_own, work_done, other_objections, other_effect, step, state_after}
-use Rattle.gui_core.specs.Drawing.{Work, Draw, Copy, Make, Discard, work_of, ink_of, ink_puts, may_ink}
-use Rattle.gui_core.specs.Stains.{Stain, no_stain, without_patch, stain_after_jobs, left_stained, with_points, stain_after_call, stained, stain_after, draws}
-use Rattle.gui_core.specs.Promises.{IsRightOutside, IsPainterOutside, NoneInvalid}
-use Rattle.gui_core.proofs.JobLemmas.{none_invalid, no_jobs}
+use Rattle.gui_core.specs.Desks.{Desk, opening_desk, is_context_call, objections, desk_objections, bad_size, no_class, refusal_of, changed, created, after_job, after_jobs, rect_with, effect, desk_effect, context_after, with_own, work_done, other_objections, other_effect}
+use Rattle.gui_core.specs.Drawing.{Work, work_of, ink_of, ink_puts}
+use Rattle.gui_core.specs.Stains.{Stain, no_stain, without_patch, stain_after_jobs, left_stained, with_points, stain_after_call}
+use Rattle.gui_core.specs.Promises.{IsRightOutside}
 use Rattle.gui_core.proofs.IgnoreLemmas.{bare-job}
-use Rattle.gui_core.proofs.KeptLemmas.{jobs-step}
 use Rattle.gui_core.proofs.SceneLemmas.{found_handle}
 use Rattle.gui_core.proofs.EffectLemmas.{MayChange, may_change, MayBeMade, may_be_made, few_windows}
 use Rattle.gui_core.proofs.ShapeLemmas.{has_ancestors-map}
@@ -50,7 +43,7 @@ use Rattle.gui_core.proofs.MessageLemmas.{rest_value, rest_message, value_covers
 use Rattle.gui_core.proofs.BareLemmas.{bare_after_change, bare_window, bare_rect}
 use Rattle.gui_core.proofs.BoneLemmas.{stack_alone, bones, keeps_bones, bones_window, live_bones}
 use Rattle.gui_core.proofs.CoverLemmas.{desk, IsShaped, shaped_same, shaped_rest, shaped_memdev, Leads, change_covers, leads_raised, leads_lowered, leads_without, leads_created, leads_changed}
-use Rattle.gui_core.proofs.PictureLemmas.{picture_of-same, IsPictured, pictured_some, job_covers}
+use Rattle.gui_core.proofs.PictureLemmas.{IsPictured, pictured_some, job_covers}
 use Rattle.gui_core.proofs.MemdevLemmas.{memdev_covers}
 use Rattle.gui_core.proofs.InkLemmas.{pictured_ink, stays_beside}
 
@@ -80,9 +73,9 @@ desk_has setup found x y x_in y_in =
 inside : (setup : Setup) (ws : List Win) (handles x y : ℕ) → IsShaped setup ws handles → x < setup.config.w → y < setup.config.h → clips_have (looks_of setup ws) ws (point_at (pos x) (pos y)) ≡ true
 inside setup ws handles x y s x_in y_in = clips_have-found setup.assets (screen_of setup) ws 1 (desk setup) (point_at (pos x) (pos y)) s.desktop (desk_has setup (λ h. place_at ws h) x y x_in y_in)
 
--- ---- the opening
+-- ---- the opening_desk
 
-opening_shaped : (setup : Setup) → IsShaped setup (opening setup).windows 1
+opening_shaped : (setup : Setup) → IsShaped setup (opening_desk setup).windows 1
 opening_shaped setup =
     let d : Win = desktop_with setup.config.w setup.config.h (screen_of setup) in
     record {
@@ -91,9 +84,9 @@ opening_shaped setup =
       desktop = refl;
     }
 
-opening_covers : (setup : Setup) → IsRightOutside setup (opening setup) no_stain
+opening_covers : (setup : Setup) → IsRightOutside setup (opening_desk setup) no_stain
 opening_covers setup x y x_in y_in outside clean =
-    absurd (false≢true (sym outside ∙ rw (desk_has setup (λ h. place_at (opening setup).windows h) x y x_in y_in, on_screen_of setup x y x_in y_in) refl))
+    absurd (false≢true (sym outside ∙ rw (desk_has setup (λ h. place_at (opening_desk setup).windows h) x y x_in y_in, on_screen_of setup x y x_in y_in) refl))
 
 -- ---- changes that are covered
 
@@ -101,7 +94,7 @@ opening_covers setup x y x_in y_in outside clean =
 abbrev Covers : Setup → List Win → List Win → Type 0
 Covers setup ws vs = (x y : ℕ) → x < setup.config.w → y < setup.config.h → DamageCovers (looks_of setup ws) ws (looks_of setup vs) vs (point_at (pos x) (pos y))
 
-right_after : (setup : Setup) (s : State) (stain : Stain) (vs : List Win) (handles : ℕ) → IsRightOutside setup s stain → Covers setup s.windows vs → IsRightOutside setup (record { windows = vs; handles = handles; shown = s.shown; contexts = s.contexts; devices = s.devices }) stain
+right_after : (setup : Setup) (s : Desk) (stain : Stain) (vs : List Win) (handles : ℕ) → IsRightOutside setup s stain → Covers setup s.windows vs → IsRightOutside setup (record { windows = vs; handles = handles; picture = s.picture; contexts = s.contexts; devices = s.devices }) stain
 right_after setup s stain vs handles right covers x y x_in y_in outside clean =
     let d = covers x y x_in y_in in
     right x y x_in y_in (d.stays outside) clean ∙ sym (d.covers outside)
@@ -160,64 +153,64 @@ leads_listed setup ws handles h c s m =
 -- ---- all calls
 
 -- what holds after each call
-pub record Holds (setup : Setup) (s : State) (stain : Stain) : Type 0 where
+pub record Holds (setup : Setup) (s : Desk) (stain : Stain) : Type 0 where
   pub shaped : IsShaped setup s.windows s.handles
   pub covers : IsRightOutside setup s stain
-  pub shown : IsPictured setup.config.w setup.config.h s.shown
+  pub pictured : IsPictured setup.config.w setup.config.h s.picture
 
-opening_holds : (setup : Setup) → Holds setup (opening setup) no_stain
-opening_holds setup = record { shaped = opening_shaped setup; covers = opening_covers setup; shown = record { colours = λ x y. 0; is = refl } }
+pub opening_holds : (setup : Setup) → Holds setup (opening_desk setup) no_stain
+opening_holds setup = record { shaped = opening_shaped setup; covers = opening_covers setup; pictured = record { colours = λ x y. 0; is = refl } }
 
-job_holds : (setup : Setup) (s : State) (stain : Stain) → Holds setup s stain → Holds setup (after_job setup s) (without_patch setup s.windows stain)
+job_holds : (setup : Setup) (s : Desk) (stain : Stain) → Holds setup s stain → Holds setup (after_job setup s) (without_patch setup s.windows stain)
 job_holds setup s stain h = record {
   shaped = shaped_same setup s.windows _ s.handles (bare-job s.windows) h.shaped;
-  covers = job_covers setup s stain (position is_invalid s.windows) refl h.shown h.covers;
-  shown = pictured_some setup.config.w setup.config.h (looks_of setup s.windows) s.windows (position is_invalid s.windows) s.shown h.shown;
+  covers = job_covers setup s stain (position is_invalid s.windows) refl h.pictured h.covers;
+  pictured = pictured_some setup.config.w setup.config.h (looks_of setup s.windows) s.windows (position is_invalid s.windows) s.picture h.pictured;
 }
 
-jobs_hold : (setup : Setup) (n : ℕ) (s : State) (stain : Stain) → Holds setup s stain → Holds setup (after_jobs setup n s) (stain_after_jobs setup n s stain)
+jobs_hold : (setup : Setup) (n : ℕ) (s : Desk) (stain : Stain) → Holds setup s stain → Holds setup (after_jobs setup n s) (stain_after_jobs setup n s stain)
 jobs_hold setup zero s stain h = h
 jobs_hold setup (suc n) s stain h = jobs_hold setup n (after_job setup s) (without_patch setup s.windows stain) (job_holds setup s stain h)
 
 -- a change of what is invalid alone
-marked_holds : (setup : Setup) (s : State) (stain : Stain) (vs : List Win) → map bare vs ≡ map bare s.windows → Covers setup s.windows vs → Holds setup s stain → Holds setup (record s { windows = vs }) stain
+marked_holds : (setup : Setup) (s : Desk) (stain : Stain) (vs : List Win) → map bare vs ≡ map bare s.windows → Covers setup s.windows vs → Holds setup s stain → Holds setup (record s { windows = vs }) stain
 marked_holds setup s stain vs same covers is = record {
   shaped = shaped_same setup s.windows vs s.handles same is.shaped;
   covers = right_after setup s stain vs s.handles is.covers covers;
-  shown = is.shown;
+  pictured = is.pictured;
 }
 
 -- a change of values and of what is invalid alone
-valued_holds : (setup : Setup) (s : State) (stain : Stain) (vs : List Win) → map rest_of vs ≡ map rest_of s.windows → Covers setup s.windows vs → Holds setup s stain → Holds setup (record s { windows = vs }) stain
+valued_holds : (setup : Setup) (s : Desk) (stain : Stain) (vs : List Win) → map rest_of vs ≡ map rest_of s.windows → Covers setup s.windows vs → Holds setup s stain → Holds setup (record s { windows = vs }) stain
 valued_holds setup s stain vs same covers is = record {
   shaped = shaped_rest setup s.windows vs s.handles same is.shaped;
   covers = right_after setup s stain vs s.handles is.covers covers;
-  shown = is.shown;
+  pictured = is.pictured;
 }
 
 -- a window that is composed aside, or no longer
-memdev_holds : (setup : Setup) (s : State) (stain : Stain) (h : ℕ) (memdev : Bool) → Holds setup s stain → Holds setup (record s { windows = window_changed h (with_memdev memdev) s.windows }) stain
+memdev_holds : (setup : Setup) (s : Desk) (stain : Stain) (h : ℕ) (memdev : Bool) → Holds setup s stain → Holds setup (record s { windows = window_changed h (with_memdev memdev) s.windows }) stain
 memdev_holds setup s stain h memdev is =
     let ws = s.windows in
     let vs = window_changed h (with_memdev memdev) ws in
     record {
       shaped = shaped_memdev setup ws s.handles h memdev is.shaped;
       covers = right_after setup s stain vs s.handles is.covers (λ x y x_in y_in. memdev_covers setup.assets (screen_of setup) ws h memdev (point_at (pos x) (pos y)));
-      shown = is.shown;
+      pictured = is.pictured;
     }
 
 -- a call that leads to a list
-led_holds : (setup : Setup) (s : State) (stain : Stain) (now : List Win) (handles h : ℕ) → Leads setup s.windows now handles h → Holds setup s stain → Holds setup (record { windows = after_change (screen_of setup) h s.windows now; handles = handles; shown = s.shown; contexts = s.contexts; devices = s.devices }) stain
+led_holds : (setup : Setup) (s : Desk) (stain : Stain) (now : List Win) (handles h : ℕ) → Leads setup s.windows now handles h → Holds setup s stain → Holds setup (record { windows = after_change (screen_of setup) h s.windows now; handles = handles; picture = s.picture; contexts = s.contexts; devices = s.devices }) stain
 led_holds setup s stain now handles h leads is = record {
   shaped = shaped_same setup now _ handles (bare_after_change (screen_of setup) h s.windows now) leads.shaped;
   covers = right_after setup s stain _ handles is.covers (λ x y x_in y_in. change_covers setup s.windows now handles h (point_at (pos x) (pos y)) leads (inside setup now handles x y leads.shaped x_in y_in));
-  shown = is.shown;
+  pictured = is.pictured;
 }
 
-changed_holds : (setup : Setup) (s : State) (stain : Stain) (h : ℕ) (c : Change) → MayChange s.windows h → Holds setup s stain → Holds setup (changed setup s h (list_after h c s.windows)).state stain
+changed_holds : (setup : Setup) (s : Desk) (stain : Stain) (h : ℕ) (c : Change) → MayChange s.windows h → Holds setup s stain → Holds setup (changed setup s h (list_after h c s.windows)).state stain
 changed_holds setup s stain h c fine is = led_holds setup s stain (list_after h c s.windows) s.handles h (leads_listed setup s.windows s.handles h c is.shaped fine) is
 
-created_holds : (setup : Setup) (s : State) (stain : Stain) (parent : ℕ) (x y : ℤ) (w h class : ℕ) → MayBeMade (length setup.assets.classes) s.windows parent w h class → Holds setup s stain → Holds setup (created setup s (new_window (s.handles + 1) parent x y w h class)).state stain
+created_holds : (setup : Setup) (s : Desk) (stain : Stain) (parent : ℕ) (x y : ℤ) (w h class : ℕ) → MayBeMade (length setup.assets.classes) s.windows parent w h class → Holds setup s stain → Holds setup (created setup s (new_window (s.handles + 1) parent x y w h class)).state stain
 created_holds setup s stain parent x y w h class m is =
     let ws = s.windows in
     let win : Win = new_window (s.handles + 1) parent x y w h class in
@@ -232,7 +225,7 @@ created_holds setup s stain parent x y w h class m is =
     } in
     led_holds setup s stain (on_top_of parent (win ∷ []) ws) (s.handles + 1) (s.handles + 1) (leads_created setup ws s.handles win (bones m.over') is.shaped new refl) is
 
-effect_holds : (setup : Setup) (s : State) (stain : Stain) (call : Call) → refusal_of (objections (length setup.assets.classes) s.windows call) ≡ None → Holds setup s stain → Holds setup (effect setup s call).state (left_stained setup s call stain)
+effect_holds : (setup : Setup) (s : Desk) (stain : Stain) (call : Call) → refusal_of (objections (length setup.assets.classes) s.windows call) ≡ None → Holds setup s stain → Holds setup (effect setup s call).state (left_stained setup s call stain)
 effect_holds setup s stain (Create parent x y w h class) e is = created_holds setup s stain parent x y w h class (may_be_made (length setup.assets.classes) s.windows parent x y w h class e) is
 effect_holds setup s stain (Delete h) e is = changed_holds setup s stain h change.Delete (may_change s.windows h [] e).0 is
 effect_holds setup s stain (MoveTo h x y) e is = changed_holds setup s stain h (change.MoveTo x y) (may_change s.windows h [] e).0 is
@@ -265,11 +258,11 @@ effect_holds setup s stain Scan e is = is
 effect_holds setup s stain call e is = is
 
 -- a call on a context leaves the windows and the picture as they are
-owning_holds : (setup : Setup) (s : State) (stain : Stain) (task : ℕ) (own : Owned) → Holds setup s stain → Holds setup (with_own s task own).state stain
-owning_holds setup s stain task own is = record { shaped = is.shaped; covers = is.covers; shown = is.shown }
+owning_holds : (setup : Setup) (s : Desk) (stain : Stain) (task : ℕ) (own : Owned) → Holds setup s stain → Holds setup (with_own s task own).state stain
+owning_holds setup s stain task own is = record { shaped = is.shaped; covers = is.covers; pictured = is.pictured }
 
 -- work leaves the windows, and the picture outside its points
-work_holds : (setup : Setup) (s : State) (stain : Stain) (task : ℕ) (work : Work) → Holds setup s stain → Holds setup (work_done setup s (owned_by s.contexts task).context work).state (with_points setup s task (Some work) stain)
+work_holds : (setup : Setup) (s : Desk) (stain : Stain) (task : ℕ) (work : Work) → Holds setup s stain → Holds setup (work_done setup s (owned_by s.contexts task).context work).state (with_points setup s task (Some work) stain)
 work_holds setup s stain task work is =
     let c = (owned_by s.contexts task).context in
     let looks = looks_of setup s.windows in
@@ -279,14 +272,14 @@ work_holds setup s stain task work is =
       covers = λ x y x_in y_in outside clean.
           let p : Point = point_at (pos x) (pos y) in
           let both = or_parts (stain p) (ink_puts looks s.windows c ink p) clean in
-          let wide : x < s.shown.width = rw (ap (λ (q : Picture). q.width) is.shown.is) x_in in
-          let high : y < s.shown.height = rw (ap (λ (q : Picture). q.height) is.shown.is) y_in in
-          stays_beside looks s.windows c ink s.shown x y wide high both.1 ∙ is.covers x y x_in y_in outside both.0;
-      shown = pictured_ink setup.config.w setup.config.h looks s.windows c ink s.shown is.shown;
+          let wide : x < s.picture.width = rw (ap (λ (q : Picture). q.width) is.pictured.is) x_in in
+          let high : y < s.picture.height = rw (ap (λ (q : Picture). q.height) is.pictured.is) y_in in
+          stays_beside looks s.windows c ink s.picture x y wide high both.1 ∙ is.covers x y x_in y_in outside both.0;
+      pictured = pictured_ink setup.config.w setup.config.h looks s.windows c ink s.picture is.pictured;
     }
 
 -- calls on contexts paint nothing and draw nothing
-context_stains_nothing : (setup : Setup) (s : State) (task : ℕ) (call : Call) (stain : Stain) → is_context_call call ≡ true → stain_after_call setup s task call stain ≡ stain
+context_stains_nothing : (setup : Setup) (s : Desk) (task : ℕ) (call : Call) (stain : Stain) → is_context_call call ≡ true → stain_after_call setup s task call stain ≡ stain
 context_stains_nothing setup s task Exec stain on = absurd cc
 context_stains_nothing setup s task Exec1 stain on = absurd cc
 context_stains_nothing setup s task (Fill x0 y0 x1 y1) stain on = absurd cc
@@ -300,132 +293,22 @@ context_stains_nothing setup s task (DevCopy device x y) stain on = absurd cc
 context_stains_nothing setup s task call stain on = refl
 
 -- work paints no patch
-work_leaves_stain : (setup : Setup) (s : State) (call : Call) (work : Work) (stain : Stain) → work_of call ≡ Some work → left_stained setup s call stain ≡ stain
+work_leaves_stain : (setup : Setup) (s : Desk) (call : Call) (work : Work) (stain : Stain) → work_of call ≡ Some work → left_stained setup s call stain ≡ stain
 work_leaves_stain setup s Exec work stain is = absurd cc
 work_leaves_stain setup s Exec1 work stain is = absurd cc
 work_leaves_stain setup s call work stain is = refl
 
-other_holds : (setup : Setup) (s : State) (stain : Stain) (actor : ℕ) (call : Call) (o : Option Work) → work_of call ≡ o → refusal_of (other_objections setup s actor o call) ≡ None → Holds setup s stain → Holds setup (other_effect setup s actor o call).state (with_points setup s actor o (left_stained setup s call stain))
+other_holds : (setup : Setup) (s : Desk) (stain : Stain) (actor : ℕ) (call : Call) (o : Option Work) → work_of call ≡ o → refusal_of (other_objections setup s actor o call) ≡ None → Holds setup s stain → Holds setup (other_effect setup s actor o call).state (with_points setup s actor o (left_stained setup s call stain))
 other_holds setup s stain actor call None is fine holds = effect_holds setup s stain call fine holds
 other_holds setup s stain actor call (Some work) is fine holds =
     subst (λ (left : Stain). Holds setup (work_done setup s (owned_by s.contexts actor).context work).state (with_points setup s actor (Some work) left)) (sym (work_leaves_stain setup s call work stain is))
     (work_holds setup s stain actor work holds)
 
-any_effect_holds : (setup : Setup) (s : State) (stain : Stain) (actor : ℕ) (call : Call) → refusal_of (objections_to setup s actor call) ≡ None → Holds setup s stain → Holds setup (effect_of setup s actor call).state (stain_after_call setup s actor call stain)
+pub any_effect_holds : (setup : Setup) (s : Desk) (stain : Stain) (actor : ℕ) (call : Call) → refusal_of (desk_objections setup s actor call) ≡ None → Holds setup s stain → Holds setup (desk_effect setup s actor call).state (stain_after_call setup s actor call stain)
 any_effect_holds setup s stain actor call fine is =
     elim (cases_Bool (is_context_call call)) [
       | inl on ↦
-          subst (λ (after : Stain). Holds setup (effect_of setup s actor call).state after) (sym (context_stains_nothing setup s actor call stain on))
+          subst (λ (after : Stain). Holds setup (desk_effect setup s actor call).state after) (sym (context_stains_nothing setup s actor call stain on))
           (rw on (owning_holds setup s stain actor (context_after (owned_by s.contexts actor) call) is))
       | inr other ↦ rw other (other_holds setup s stain actor call (work_of call) refl (rw other at fine) is)
     ]
-
-unless_refused_holds : (setup : Setup) (s : State) (stain after : Stain) (done : Step) (o : Option Refusal) → Holds setup s stain → (o ≡ None → Holds setup done.state after) → Holds setup (unless_refused o s done).state (cond (is_some o) stain after)
-unless_refused_holds setup s stain after done None is is_done = is_done refl
-unless_refused_holds setup s stain after done (Some refusal) is is_done = is
-
-step_holds : (setup : Setup) (s : State) (stain : Stain) (e : Entry) → Holds setup s stain → Holds setup (step setup s e).state (stained setup s e stain)
-unfolding step
-step_holds setup s stain (entry.Call actor call) is =
-    unless_refused_holds setup s stain (stain_after_call setup s actor call stain) (effect_of setup s actor call) (refusal_of (objections_to setup s actor call)) is (λ fine. any_effect_holds setup s stain actor call fine is)
-
-entries_hold : (setup : Setup) (s : State) (stain : Stain) (es : List Entry) → Holds setup s stain → Holds setup (state_after setup s es) (stain_after setup s es stain)
-entries_hold setup s stain [] is = is
-entries_hold setup s stain (e ∷ es) is = entries_hold setup (step setup s e).state (stained setup s e stain) es (step_holds setup s stain e is)
-
-all_hold : (setup : Setup) (es : List Entry) → Holds setup (state_after setup (opening setup) es) (stain_after setup (opening setup) es no_stain)
-all_hold setup es = entries_hold setup (opening setup) no_stain es (opening_holds setup)
-
-pub damage_covers : (setup : Setup) (es : List Entry) → IsRightOutside setup (state_after setup (opening setup) es) (stain_after setup (opening setup) es no_stain)
-damage_covers setup es = let h = all_hold setup es in h.covers
-
--- ---- what isn't stained stays clean until a task draws there
-
-job_cleans : (setup : Setup) (ws : List Win) (stain : Stain) (p : Point) → stain p ≡ false → without_patch setup ws stain p ≡ false
-job_cleans setup ws stain p clean = rw clean refl
-
-jobs_clean : (setup : Setup) (n : ℕ) (s : State) (stain : Stain) (p : Point) → stain p ≡ false → stain_after_jobs setup n s stain p ≡ false
-jobs_clean setup zero s stain p clean = clean
-jobs_clean setup (suc n) s stain p clean = jobs_clean setup n (after_job setup s) (without_patch setup s.windows stain) p (job_cleans setup s.windows stain p clean)
-
-left_clean : (setup : Setup) (s : State) (call : Call) (stain : Stain) (p : Point) → stain p ≡ false → left_stained setup s call stain p ≡ false
-left_clean setup s Exec stain p clean = jobs_clean setup (jobs_of s.windows) s stain p clean
-left_clean setup s Exec1 stain p clean = jobs_clean setup (cond (list_any is_invalid s.windows) 1 0) s stain p clean
-left_clean setup s call stain p clean = clean
-
-unless_clean : (refused : Bool) (stain after : Stain) (p : Point) → stain p ≡ false → after p ≡ false → (cond refused stain after) p ≡ false
-unless_clean true stain after p clean is_after = clean
-unless_clean false stain after p clean is_after = is_after
-
-points_clean : (setup : Setup) (s : State) (task : ℕ) (o : Option Work) (stain : Stain) (p : Point) → option_map_or may_ink o false ≡ false → stain p ≡ false → with_points setup s task o stain p ≡ false
-points_clean setup s task None stain p none clean = clean
-points_clean setup s task (Some (Draw shape)) stain p none clean = absurd cc
-points_clean setup s task (Some (Copy device x y)) stain p none clean = absurd cc
-points_clean setup s task (Some (Make w h)) stain p none clean = rw clean refl
-points_clean setup s task (Some (Discard device)) stain p none clean = rw clean refl
-
-pub stays_clean : (setup : Setup) (s : State) (e : Entry) (stain : Stain) (p : Point) → draws e ≡ false → stain p ≡ false → stained setup s e stain p ≡ false
-stays_clean setup s (entry.Call actor call) stain p none clean =
-    unless_clean (is_some (refusal_of (objections_to setup s actor call))) stain (stain_after_call setup s actor call stain) p clean
-    (points_clean setup s actor (work_of call) (left_stained setup s call stain) p none (left_clean setup s call stain p clean))
-
-all_clean : (setup : Setup) (s : State) (es : List Entry) (stain : Stain) (p : Point) → list_any draws es ≡ false → stain p ≡ false → stain_after setup s es stain p ≡ false
-all_clean setup s [] stain p none clean = clean
-all_clean setup s (e ∷ es) stain p none clean =
-    let parts = or_parts (draws e) (list_any draws es) none in
-    all_clean setup (step setup s e).state es (stained setup s e stain) p parts.1 (stays_clean setup s e stain p parts.0 clean)
-
--- ---- where no window is invalid
-
-not_invalid_at : (o : Option Rect) (p : Point) → is_some o ≡ false → some_has o p ≡ false
-not_invalid_at None p none = refl
-not_invalid_at (Some r) p none = absurd cc
-
-valid_is_no_damage : (looks : Looks) (ws : List Win) (p : Point) → NoneInvalid ws → is_damaged looks ws p ≡ false
-valid_is_no_damage looks [] p none = refl
-valid_is_no_damage looks (w ∷ ws) p none =
-    let parts = or_parts (is_invalid w) (list_any is_invalid ws) none in
-    or_from _ _ (and_right (is_seen looks w ws p) (is_invalid_at p w) (not_invalid_at w.invalid p parts.0)) (valid_is_no_damage looks ws p parts.1)
-
-right_outside : (setup : Setup) (s : State) (stain : Stain) → Holds setup s stain → NoneInvalid s.windows → IsPainterOutside setup s stain
-right_outside setup s stain h none x y x_in y_in clean =
-    h.covers x y x_in y_in (valid_is_no_damage (looks_of setup s.windows) s.windows (point_at (pos x) (pos y)) none) clean
-    ∙ sym (colour_at-picture_of setup.config.w setup.config.h (λ u v. painted (looks_of setup s.windows) s.windows (point_at (pos u) (pos v))) x y x_in y_in)
-
-shown_is_painter : (setup : Setup) (s : State) (stain : Stain) → Holds setup s stain → ((p : Point) → stain p ≡ false) → NoneInvalid s.windows → s.shown ≡ painter setup s.windows
-shown_is_painter setup s stain h clean none =
-    let colours = h.shown.colours in
-    h.shown.is
-    ∙ picture_of-same setup.config.w setup.config.h colours (λ x y. painted (looks_of setup s.windows) s.windows (point_at (pos x) (pos y))) (λ x y x_in y_in.
-    sym (colour_at-picture_of setup.config.w setup.config.h colours x y x_in y_in)
-    ∙ ap (λ (shown : Picture). colour_at shown x y) (sym h.shown.is)
-    ∙ h.covers x y x_in y_in (valid_is_no_damage (looks_of setup s.windows) s.windows (point_at (pos x) (pos y)) none) (clean (point_at (pos x) (pos y))))
-
--- ---- exec
-
-any_none : (ws : List Win) → AllByRecursion (λ v. is_invalid v ≡ false) ws → list_any is_invalid ws ≡ false
-any_none [] all = refl
-any_none (w ∷ ws) all = rw (all.0, any_none ws all.1) refl
-
-no_more_jobs : (setup : Setup) (s : State) (o : Option ℕ) → position is_invalid s.windows ≡ o → jobs_of s.windows ≡ 0 → NoneInvalid s.windows
-no_more_jobs setup s None is e = any_none s.windows (none_invalid s.windows is)
-no_more_jobs setup s (Some which) is e = let more = jobs-step setup s which is in absurd (omega arith)
-
-one_job_less : (setup : Setup) (n : ℕ) (s : State) (o : Option ℕ) → position is_invalid s.windows ≡ o → jobs_of s.windows ≡ suc n → jobs_of (after_job setup s).windows ≡ n
-one_job_less setup n s None is e = let none = no_jobs s.windows is in absurd (omega arith)
-one_job_less setup n s (Some which) is e = let more = jobs-step setup s which is in omega arith
-
--- after as many jobs as there are invalid windows none is invalid
-pub jobs_end : (setup : Setup) (n : ℕ) (s : State) → jobs_of s.windows ≡ n → NoneInvalid (after_jobs setup n s).windows
-jobs_end setup zero s e = no_more_jobs setup s (position is_invalid s.windows) refl e
-jobs_end setup (suc n) s e = jobs_end setup n (after_job setup s) (one_job_less setup n s (position is_invalid s.windows) refl e)
-
-pub exec_ends : (setup : Setup) (s : State) (actor : ℕ) → NoneInvalid (step setup s (entry.Call actor Exec)).state.windows
-unfolding step
-exec_ends setup s actor = jobs_end setup (jobs_of s.windows) s refl
-
-pub quiet_is_painter : (setup : Setup) (es : List Entry) → NoneInvalid (state_after setup (opening setup) es).windows → IsPainterOutside setup (state_after setup (opening setup) es) (stain_after setup (opening setup) es no_stain)
-quiet_is_painter setup es none = right_outside setup (state_after setup (opening setup) es) _ (all_hold setup es) none
-
-pub undrawn_is_painter : (setup : Setup) (es : List Entry) → list_any draws es ≡ false → NoneInvalid (state_after setup (opening setup) es).windows → latest (state_after setup (opening setup) es) ≡ painter setup (state_after setup (opening setup) es).windows
-undrawn_is_painter setup es undrawn none = shown_is_painter setup (state_after setup (opening setup) es) _ (all_hold setup es) (λ p. all_clean setup (opening setup) es no_stain p undrawn refl) none

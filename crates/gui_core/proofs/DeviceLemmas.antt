@@ -19,9 +19,10 @@ use Rattle.memdev.specs.declared.refused.DevRefused.{DevRefused}
 use Rattle.memdev.specs.declared.refused.DevRefused.TheVariants as device
 use Rattle.calls.specs.declared.reply.Refusal.{Refusal}
 use Rattle.calls.specs.declared.reply.Refusal.TheVariants.{NoDevice}
-use Rattle.gui_core.specs.Drawing.{Work, Draw, Copy, Make, Discard, Surfaces, devices_after, reply_to}
+use Rattle.gui_core.specs.Panes.{Panes}
+use Rattle.gui_core.specs.Drawing.{Work, Draw, Copy, Make, Discard, devices_after, reply_to}
 use Rattle.gui_core.specs.Refusals.{Draws, device_refusal}
-use Rattle.gui_core.specs.States.{refusal_of, no_device}
+use Rattle.gui_core.specs.Desks.{refusal_of, no_device}
 use Rattle.gui_core.specs.Devices.{DevicePicture, DevicePictures, picture_on, with_new_device, without_picture, without_device, with_picture, with_drawing, seen_device, seen_devices}
 
 -- a list of one number, as a picture's points
@@ -94,33 +95,33 @@ lent_is_some (Some f) = refl
 
 -- ---- what callers see then
 
-pub made_seen : (shown : Picture) (t n : Table) (now : Surfaces) (w h colour : ℕ) → ◌≡◌ {A = Surfaces} (record { shown = shown; devices = seen_devices t }) now → n ≡ with_device t (filled w h colour)
-    → ◌≡◌ {A = Surfaces} (record { shown = shown; devices = seen_devices n }) (record now { devices = with_new_device w h colour now.devices })
-made_seen shown t n now w h colour view made =
-    ap (λ (k : Table). record { shown = shown; devices = seen_devices k }) made
-    ∙ ap (λ (ds : DevicePictures). record { shown = shown; devices = ds }) (seen-made t w h colour)
-    ∙ ap (λ (s : Surfaces). record s { devices = with_new_device w h colour s.devices }) view
+pub made_seen : (p : Panes) (t n : Table) (now : Panes) (w h colour : ℕ) → ◌≡◌ {A = Panes} (record p { devices = seen_devices t }) now → n ≡ with_device t (filled w h colour)
+    → ◌≡◌ {A = Panes} (record p { devices = seen_devices n }) (record now { devices = with_new_device w h colour now.devices })
+made_seen p t n now w h colour view made =
+    ap (λ (k : Table). record p { devices = seen_devices k }) made
+    ∙ ap (λ (ds : DevicePictures). record p { devices = ds }) (seen-made t w h colour)
+    ∙ ap (λ (s : Panes). record s { devices = with_new_device w h colour s.devices }) view
 
-pub discarded : (shown : Picture) (t n : Table) (now : Surfaces) (handle : ℕ) (r : Result (Unit {0}) DevRefused) → ◌≡◌ {A = Surfaces} (record { shown = shown; devices = seen_devices t }) now → r ≡ Ok tt → (r ≡ Err (device.NoDevice handle)) ↔ (frame_of t.live handle ≡ None) → n ≡ table_without t handle
-    → Draws (Ok tt) (refusal_of (no_device now.devices.live handle ∷ [])) (record now { devices = without_device handle now.devices }) now (record { shown = shown; devices = seen_devices n })
-discarded shown t n now handle r view ok refused deleted = (
+pub discarded : (p : Panes) (t n : Table) (now : Panes) (handle : ℕ) (r : Result (Unit {0}) DevRefused) → ◌≡◌ {A = Panes} (record p { devices = seen_devices t }) now → r ≡ Ok tt → (r ≡ Err (device.NoDevice handle)) ↔ (frame_of t.live handle ≡ None) → n ≡ table_without t handle
+    → Draws (Ok tt) (refusal_of (no_device now.devices.live handle ∷ [])) (record now { devices = without_device handle now.devices }) now (record p { devices = seen_devices n })
+discarded p t n now handle r view ok refused deleted = (
   fine (frame_of t.live handle) refl,
-  ap (λ (k : Table). record { shown = shown; devices = seen_devices k }) deleted
-      ∙ ap (λ (ds : DevicePictures). record { shown = shown; devices = ds }) (seen-deleted t handle)
-      ∙ ap (λ (s : Surfaces). record s { devices = without_device handle s.devices }) view,
+  ap (λ (k : Table). record p { devices = seen_devices k }) deleted
+      ∙ ap (λ (ds : DevicePictures). record p { devices = ds }) (seen-deleted t handle)
+      ∙ ap (λ (s : Panes). record s { devices = without_device handle s.devices }) view,
 )
   where
     fine : (o : Option Canvas) → frame_of t.live handle ≡ o → refusal_of (no_device now.devices.live handle ∷ []) ≡ None
     fine None none = let wrong : ◌≡◌ {A = Result (Unit {0}) DevRefused} (Ok tt) (Err (device.NoDevice handle)) = sym ok ∙ refused.1 none in absurd cc
-    fine (Some f) live = let there = ap (λ (s : Surfaces). picture_on s.devices.live handle) (sym view) ∙ seen t handle f live in rw there refl
+    fine (Some f) live = let there = ap (λ (s : Panes). picture_on s.devices.live handle) (sym view) ∙ seen t handle f live in rw there refl
 
-pub not_discarded : (shown : Picture) (t n : Table) (now : Surfaces) (handle : ℕ) (r : Result (Unit {0}) DevRefused) (why : DevRefused) (told : Refusal) → ◌≡◌ {A = Surfaces} (record { shown = shown; devices = seen_devices t }) now → r ≡ Err why → (r ≡ Err (device.NoDevice handle)) ↔ (frame_of t.live handle ≡ None) → why ≡ device.NoDevice handle → n ≡ t → told ≡ device_refusal why
-    → Draws (Err told) (refusal_of (no_device now.devices.live handle ∷ [])) (record now { devices = without_device handle now.devices }) now (record { shown = shown; devices = seen_devices n })
-not_discarded shown t n now handle r why told view err refused only unchanged is =
+pub not_discarded : (p : Panes) (t n : Table) (now : Panes) (handle : ℕ) (r : Result (Unit {0}) DevRefused) (why : DevRefused) (told : Refusal) → ◌≡◌ {A = Panes} (record p { devices = seen_devices t }) now → r ≡ Err why → (r ≡ Err (device.NoDevice handle)) ↔ (frame_of t.live handle ≡ None) → why ≡ device.NoDevice handle → n ≡ t → told ≡ device_refusal why
+    → Draws (Err told) (refusal_of (no_device now.devices.live handle ∷ [])) (record now { devices = without_device handle now.devices }) now (record p { devices = seen_devices n })
+not_discarded p t n now handle r why told view err refused only unchanged is =
     let none = refused.0 (err ∙ ap (λ (w : DevRefused). Err w) only) in
-    let gone = ap (λ (s : Surfaces). picture_on s.devices.live handle) (sym view) ∙ unseen t handle none in
+    let gone = ap (λ (s : Panes). picture_on s.devices.live handle) (sym view) ∙ unseen t handle none in
     let same : told ≡ NoDevice handle = is ∙ ap device_refusal only in
-    (rw gone (ap (λ (w : Refusal). Some w) (sym same)), ap (λ (k : Table). record { shown = shown; devices = seen_devices k }) unchanged ∙ view)
+    (rw gone (ap (λ (w : Refusal). Some w) (sym same)), ap (λ (k : Table). record p { devices = seen_devices k }) unchanged ∙ view)
 
 -- drawing gives out no handle
 pub handles-drawn : (handle : ℕ) (draw : Picture → Picture) (ds : DevicePictures) → (with_drawing handle draw ds).handles ≡ ds.handles

@@ -31,7 +31,7 @@ use Rattle.gui_core.specs.Windows.{after_change, with_class, with_invalid_window
 use Rattle.gui_core.specs.Scenes.{HasClass, IsScene}
 use Rattle.gui_core.specs.Changes.{call_for, list_after, context_call, stroke_call}
 use Rattle.gui_core.specs.Drawing.{Work, Draw, work_of}
-use Rattle.gui_core.specs.States.{State, Step, is_context_call, with_windows, effect, Objection, objections, no_window, too_deep, bad_size, no_class, refusal_of}
+use Rattle.gui_core.specs.Desks.{Desk, Step, is_context_call, with_windows, effect, Objection, objections, no_window, too_deep, bad_size, no_class, refusal_of}
 use Rattle.gui_core.proofs.IgnoreLemmas.{bare_invalidated}
 use Rattle.gui_core.proofs.SceneLemmas.{found_has, found_handle, MayStand, scene_changed, scene_marked, scene_raised, scene_lowered, scene_without}
 
@@ -264,7 +264,7 @@ draws_it (shape.Line x0 y0 x1 y1) = (refl, refl)
 draws_it (shape.Bitmap bitmap x y) = (refl, refl)
 draws_it (shape.Text x y string) = (refl, refl)
 
-pub does : (setup : Setup) (s : State) (h : ℕ) (change : Change) → ◌≡◌ {A = Step} (with_windows s (after_change (screen_of setup) h s.windows (list_after h change s.windows))) (effect setup s (call_for h change))
+pub does : (setup : Setup) (s : Desk) (h : ℕ) (change : Change) → ◌≡◌ {A = Step Desk} (with_windows s (after_change (screen_of setup) h s.windows (list_after h change s.windows))) (effect setup s (call_for h change))
 does setup s h Delete = refl
 does setup s h (MoveTo x y) = refl
 does setup s h (MoveBy dx dy) = refl

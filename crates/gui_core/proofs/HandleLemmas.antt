@@ -9,7 +9,7 @@ use Rattle.context.specs.declared.context.Context.{Context}
 use Rattle.context.specs.Contexts.{owned_by}
 use Rattle.strokes.specs.Strokes.{colour_of_stroke, inked_whole}
 use Rattle.calls.specs.declared.call.Call.{Call}
-use Rattle.calls.specs.declared.call.Call.TheVariants.{Exec, Exec1}
+use Rattle.calls.specs.declared.call.Call.TheVariants.{Begin, End, Exec, Exec1}
 use Rattle.calls.specs.declared.entry.Entry.{Entry}
 use Rattle.calls.specs.declared.entry.Entry.TheVariants as entry
 use Rattle.calls.specs.declared.reply.Refusal.{Refusal}
@@ -18,7 +18,8 @@ use Rattle.gui_core.specs.Setups.{Setup}
 use Rattle.gui_core.specs.Jobs.{jobs_of}
 use Rattle.gui_core.specs.Devices.{DevicePicture, DevicePictures, picture_on, with_new_device, without_picture, with_picture, with_drawing}
 use Rattle.gui_core.specs.Drawing.{Work, Draw, Copy, Make, Discard, work_of, devices_after}
-use Rattle.gui_core.specs.States.{State, Step, is_context_call, objections_to, refusal_of, unless_refused, after_job, after_jobs, effect, other_effect, effect_of, step, state_after}
+use Rattle.gui_core.specs.Desks.{Desk, Step, is_context_call, refusal_of, unless_refused, after_job, after_jobs, effect, other_effect, desk_effect}
+use Rattle.gui_core.specs.States.{State, desk_of, objections_to, effect_of, step, state_after}
 
 -- the handle was given out, and finds no device
 record IsGone (ds : DevicePictures) (handle : ℕ) : Type 0 where
@@ -85,34 +86,40 @@ gone_after_work assets c (Discard device) ds handle is = record { given = is.giv
 
 -- ---- all calls
 
-jobs_leave : (setup : Setup) (n : ℕ) (s : State) → (after_jobs setup n s).devices ≡ s.devices
+jobs_leave : (setup : Setup) (n : ℕ) (s : Desk) → (after_jobs setup n s).devices ≡ s.devices
 jobs_leave setup zero s = refl
 jobs_leave setup (suc n) s = jobs_leave setup n (after_job setup s)
 
-effect_leaves : (setup : Setup) (s : State) (call : Call) → (effect setup s call).state.devices ≡ s.devices
+effect_leaves : (setup : Setup) (s : Desk) (call : Call) → (effect setup s call).state.devices ≡ s.devices
 effect_leaves setup s Exec = jobs_leave setup (jobs_of s.windows) s
 effect_leaves setup s Exec1 = jobs_leave setup (cond (list_any is_invalid s.windows) 1 0) s
 effect_leaves setup s call = refl
 
-gone_after_other : (setup : Setup) (s : State) (actor : ℕ) (o : Option Work) (call : Call) (handle : ℕ) → IsGone s.devices handle → IsGone (other_effect setup s actor o call).state.devices handle
+gone_after_other : (setup : Setup) (s : Desk) (actor : ℕ) (o : Option Work) (call : Call) (handle : ℕ) → IsGone s.devices handle → IsGone (other_effect setup s actor o call).state.devices handle
 gone_after_other setup s actor None call handle is = subst (λ (ds : DevicePictures). IsGone ds handle) (sym (effect_leaves setup s call)) is
 gone_after_other setup s actor (Some work) call handle is = gone_after_work setup.assets (owned_by s.contexts actor).context work s.devices handle is
 
-gone_after_effect : (setup : Setup) (s : State) (actor : ℕ) (call : Call) (handle : ℕ) → IsGone s.devices handle → IsGone (effect_of setup s actor call).state.devices handle
+gone_after_effect : (setup : Setup) (s : Desk) (actor : ℕ) (call : Call) (handle : ℕ) → IsGone s.devices handle → IsGone (desk_effect setup s actor call).state.devices handle
 gone_after_effect setup s actor call handle is =
     elim (cases_Bool (is_context_call call)) [
       | inl on ↦ rw on is
       | inr other ↦ rw other (gone_after_other setup s actor (work_of call) call handle is)
     ]
 
-gone_unless : (o : Option Refusal) (s : State) (done : Step) (handle : ℕ) → IsGone s.devices handle → IsGone done.state.devices handle → IsGone (unless_refused o s done).state.devices handle
+all_gone : (setup : Setup) (s : State) (actor : ℕ) (call : Call) (handle : ℕ) → IsGone s.devices handle → IsGone (effect_of setup s actor call).state.devices handle
+all_gone setup s actor Begin handle is = is
+all_gone setup s actor End handle is = is
+all_gone setup s actor call handle is = gone_after_effect setup (desk_of s) actor call handle is
+
+gone_unless : (o : Option Refusal) (s : State) (done : Step State) (handle : ℕ) → IsGone s.devices handle → IsGone done.state.devices handle → IsGone (unless_refused o s done).state.devices handle
 gone_unless None s done handle before after = after
 gone_unless (Some refusal) s done handle before after = before
 
 gone_after : (setup : Setup) (s : State) (e : Entry) (handle : ℕ) → IsGone s.devices handle → IsGone (step setup s e).state.devices handle
 unfolding step
 gone_after setup s (entry.Call actor call) handle is =
-    gone_unless (refusal_of (objections_to setup s actor call)) s (effect_of setup s actor call) handle is (gone_after_effect setup s actor call handle is)
+    gone_unless (refusal_of (objections_to setup s actor call)) s (effect_of setup s actor call) handle is (all_gone setup s actor call handle is)
+gone_after setup s (entry.Shown k) handle is = is
 
 stays_gone : (setup : Setup) (s : State) (es : List Entry) (handle : ℕ) → IsGone s.devices handle → IsGone (state_after setup s es).devices handle
 stays_gone setup s [] handle is = is

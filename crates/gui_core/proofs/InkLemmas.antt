@@ -10,7 +10,7 @@ use Rattle.scene.specs.Painting.{Looks}
 use Rattle.strokes.specs.Strokes.{Ink, puts_down, stroked}
 use Rattle.calls.specs.declared.reply.Refusal.{Refusal}
 use Rattle.gui_core.specs.Drawing.{selected, with_ink, after_ink, ink_puts}
-use Rattle.gui_core.specs.States.{Objection, refusal_of}
+use Rattle.gui_core.specs.Desks.{Objection, refusal_of}
 use Rattle.gui_core.proofs.EffectLemmas.{not_refused}
 use Rattle.gui_core.proofs.PictureLemmas.{IsPictured, pictured_changed}
 

@@ -1,8 +1,8 @@
 -- A job: the first invalid window, and the points that it paints.
-use Rattle.std.proofs.Common.{◌≡◌, ℕ, suc, ◌+◌, Bool, true, false, ◌||◌, cond, List, [], ◌∷◌, ◌++◌, length, get_or, set, take, drop, Option, Some, None, refl, sym, ap, subst, ◌∙◌, inl, inr, arith}
+use Rattle.std.proofs.Common.{◌≡◌, ℕ, suc, ◌+◌, true, false, ◌||◌, cond, List, [], ◌∷◌, ◌++◌, length, get_or, set, take, drop, Option, Some, None, refl, sym, ap, subst, ◌∙◌, inl, inr, arith}
 use Rattle.std.specs.Prelude.{position, count_by}
 use Rattle.std.specs.List.{AllByRecursion, sum_by, list_any}
-use Rattle.std.proofs.lemmas.Bool.{cases_Bool}
+use Rattle.std.proofs.lemmas.Bool.{cases_Bool, or_parts}
 use Rattle.std.specs.Option.{option_map_or}
 use Rattle.std.proofs.lemmas.List.Sums.{sum_by-cons, sum_by-append}
 use Rattle.std.proofs.lemmas.List.{length-take-le, set_at}
@@ -29,12 +29,12 @@ windows_after_job-parts (v ∷ before) w after valid invalid = rw valid.0 (ap (�
 -- ---- the picture
 
 -- what the job of a window leaves
-pub job_shows : (setup : Setup) (ws lent : List Win) (which : ℕ) (old new : Picture) → position is_invalid ws ≡ Some which → lent ≡ ws → old.width ≡ setup.config.w → old.height ≡ setup.config.h
-    → new ≡ repainted (looks_on setup.assets (screen_with old.width old.height) lent) lent which old → new ≡ picture_after_job setup ws old
-job_shows setup ws lent which old new first same wide high shows =
+pub job_shows : (setup : Setup) (ws lent : List Win) (which width height : ℕ) (old new : Picture) → position is_invalid ws ≡ Some which → lent ≡ ws → width ≡ setup.config.w → height ≡ setup.config.h
+    → new ≡ repainted (looks_on setup.assets (screen_with width height) lent) lent which old → new ≡ picture_after_job setup ws old
+job_shows setup ws lent which width height old new first same wide high shows =
     shows
-    ∙ ap (λ (vs : List Win). repainted (looks_on setup.assets (screen_with old.width old.height) vs) vs which old) same
-    ∙ ap (λ (n : ℕ). repainted (looks_on setup.assets (screen_with n old.height) ws) ws which old) wide
+    ∙ ap (λ (vs : List Win). repainted (looks_on setup.assets (screen_with width height) vs) vs which old) same
+    ∙ ap (λ (n : ℕ). repainted (looks_on setup.assets (screen_with n height) ws) ws which old) wide
     ∙ ap (λ (n : ℕ). repainted (looks_on setup.assets (screen_with setup.config.w n) ws) ws which old) high
     ∙ sym (ap (λ (o : Option ℕ). option_map_or (λ k. repainted (looks_of setup ws) ws k old) o old) first)
 
@@ -131,7 +131,16 @@ jobs-more ws which e =
 
 -- ---- whether there is a job
 
-any_none : (ws : List Win) → AllByRecursion (λ v. is_invalid v ≡ false) ws → list_any is_invalid ws ≡ false
+pub none_any : (ws : List Win) → list_any is_invalid ws ≡ false → count_by is_invalid ws ≡ 0
+none_any [] none = refl
+none_any (w ∷ ws) none =
+    let parts = or_parts (is_invalid w) (list_any is_invalid ws) none in
+    let f = λ (v : Win). cond (is_invalid v) 1 0 in
+    let one : sum_by f (w ∷ ws) ≡ 0 + sum_by f ws = sum_by-cons f w ws ∙ rw parts.0 refl in
+    let left : sum_by f ws ≡ 0 = none_any ws parts.1 in
+    omega (arith, one, left)
+
+pub any_none : (ws : List Win) → AllByRecursion (λ v. is_invalid v ≡ false) ws → list_any is_invalid ws ≡ false
 any_none [] all = refl
 any_none (w ∷ ws) all = rw (all.0, any_none ws all.1) refl
 
@@ -143,10 +152,10 @@ any_midst (v ∷ before) w after invalid =
       | inr e ↦ rw e (any_midst before w after invalid)
     ]
 
-pub none_invalid_any : (ws : List Win) → position is_invalid ws ≡ None → ◌≡◌ {A = ℕ} 0 (cond (list_any is_invalid ws) 1 0)
-none_invalid_any ws e = sym (ap (λ (b : Bool). cond b 1 0) (any_none ws (none_invalid ws e)))
+pub none_invalid_any : (ws : List Win) → position is_invalid ws ≡ None → list_any is_invalid ws ≡ false
+none_invalid_any ws e = any_none ws (none_invalid ws e)
 
-pub some_invalid : (ws : List Win) (which : ℕ) → position is_invalid ws ≡ Some which → ◌≡◌ {A = ℕ} 1 (cond (list_any is_invalid ws) 1 0)
+pub some_invalid : (ws : List Win) (which : ℕ) → position is_invalid ws ≡ Some which → list_any is_invalid ws ≡ true
 some_invalid ws which e =
     let s = splits is_invalid ws which e in
-    sym (ap (λ (b : Bool). cond b 1 0) (ap (list_any is_invalid) s.parts ∙ any_midst (take which ws) (get_or ws which no_window) (drop (which + 1) ws) s.passes))
+    ap (list_any is_invalid) s.parts ∙ any_midst (take which ws) (get_or ws which no_window) (drop (which + 1) ws) s.passes

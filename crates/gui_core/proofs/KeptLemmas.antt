@@ -1,7 +1,8 @@
 -- What is true of every core goes on to be true.
-use Rattle.std.proofs.Common.{◌≡◌, ℕ, suc, ◌+◌, ◌≤◌, List, length, take, Some, None, refl, sym, ap, ◌∙◌, arith}
+use Rattle.std.proofs.Common.{◌≡◌, ℕ, suc, ◌+◌, ◌≤◌, Bool, true, false, cond, eqb, List, length, take, Some, None, refl, sym, ap, subst, ◌∙◌, arith}
 use Rattle.std.specs.Prelude.{position}
 use Rattle.std.specs.List.{refill}
+use Rattle.std.proofs.lemmas.Bool.{ne_eqb}
 use Rattle.std.proofs.lemmas.List.{append-nil, take_all, drop_all}
 use Rattle.std.proofs.lemmas.List.Sums.{count_by-le-length}
 use Rattle.frame.specs.Pictures.{Picture}
@@ -13,46 +14,60 @@ use Rattle.gui_core.specs.Setups.{Setup}
 use Rattle.gui_core.specs.Scenes.{IsScene}
 use Rattle.invalidate.specs.Invalidation.{is_invalid}
 use Rattle.gui_core.specs.Jobs.{windows_after_job, jobs_of}
-use Rattle.gui_core.specs.States.{State, after_job, after_jobs}
-use Rattle.gui_core.specs.Machines.{Machine, IsKept}
+use Rattle.gui_core.specs.Desks.{Desk, after_job, after_jobs}
+use Rattle.gui_core.specs.Machines.{Machine, IsScreen, Paints, IsKept}
+use Rattle.gui_core.specs.Panes.{IsBegun}
+use Rattle.gui_core.specs.States.{desk_of}
+use Rattle.multibuf.specs.Screens.{Screen, after_draw}
+use Rattle.gui_core.proofs.TurnLemmas.{screen-draw, drawn_twice}
 use Rattle.gui_core.proofs.IgnoreLemmas.{bare-job}
-use Rattle.gui_core.proofs.JobLemmas.{jobs-more, no_jobs, width-job, height-job}
+use Rattle.gui_core.proofs.JobLemmas.{jobs-more, no_jobs}
 use Rattle.gui_core.proofs.SceneLemmas.{scene_job}
 
 -- ---- a job
 
--- the core with other windows, which are those of a tree too, with another picture of the same sides, with any contexts, and with other devices
-pub kept-with : (m : Machine) (ws : List Win) (handles : ℕ) (p : Picture) (contexts : List Owned) (ds : DevicePictures) → IsKept m → IsScene m.setup ws handles → handles ≤ m.made + 1 → ds.handles ≤ m.made → p.width ≡ m.state.shown.width → p.height ≡ m.state.shown.height
-    → IsKept (record m { state = record { windows = ws; handles = handles; shown = p; contexts = contexts; devices = ds } })
-kept-with m ws handles p contexts ds kept scene few few_devices wide high = record {
+-- the core with other windows, which are those of a tree too, with other pictures of its buffers, with any contexts, and with other devices
+pub kept-with : (m : Machine) (ws : List Win) (handles : ℕ) (screen : Screen) (contexts : List Owned) (ds : DevicePictures) → IsKept m → IsScene m.setup ws handles → handles ≤ m.made + 1 → ds.handles ≤ m.made → IsScreen m.buffers screen → screen.switches ≤ m.made
+    → IsKept (record m { state = record { windows = ws; handles = handles; screen = screen; contexts = contexts; devices = ds } })
+kept-with m ws handles screen contexts ds kept scene few few_devices pictures few_switches = record {
   config = kept.config;
   assets = kept.assets;
   has_desktop = kept.has_desktop;
-  width = wide ∙ kept.width;
-  height = high ∙ kept.height;
+  buffers = kept.buffers;
+  screen = pictures;
+  width = kept.width;
+  height = kept.height;
   scene = scene;
   handles = few;
   devices = few_devices;
+  switches = few_switches;
   made = kept.made;
   refused = kept.refused;
 }
 
 pub kept-windows : (m : Machine) (ws : List Win) → IsKept m → IsScene m.setup ws m.state.handles → IsKept (record m { state = record m.state { windows = ws } })
-kept-windows m ws kept scene = kept-with m ws m.state.handles m.state.shown m.state.contexts m.state.devices kept scene kept.handles kept.devices refl refl
+kept-windows m ws kept scene = kept-with m ws m.state.handles m.state.screen m.state.contexts m.state.devices kept scene kept.handles kept.devices kept.screen kept.switches
 
-pub kept-job : (m : Machine) → IsKept m → IsKept (record m { state = after_job m.setup m.state })
-kept-job m kept = kept-with m (windows_after_job m.state.windows) m.state.handles _ m.state.contexts m.state.devices kept (scene_job m.setup m.state.windows m.state.handles kept.scene) kept.handles kept.devices (width-job m.setup m.state.windows m.state.shown) (height-job m.setup m.state.windows m.state.shown)
+pub kept-screen : (m : Machine) (screen : Screen) → IsKept m → IsScreen m.buffers screen → screen.switches ≤ m.made → IsKept (record m { state = record m.state { screen = screen } })
+kept-screen m screen kept pictures few = kept-with m m.state.windows m.state.handles screen m.state.contexts m.state.devices kept kept.scene kept.handles kept.devices pictures few
+
+-- a job that drew this
+pub kept-job : (m : Machine) (p : Picture) → IsKept m → IsBegun m.buffers m.state.screen → IsKept (record m { state = record m.state { windows = windows_after_job m.state.windows; screen = after_draw m.buffers p m.state.screen } })
+kept-job m p kept begun = kept-with m (windows_after_job m.state.windows) m.state.handles _ m.state.contexts m.state.devices kept (scene_job m.setup m.state.windows m.state.handles kept.scene) kept.handles kept.devices (screen-draw m.buffers p m.state.screen begun kept.screen) kept.switches
 
 pub kept-counted : (m : Machine) (made refused : ℕ) → IsKept m → m.made ≤ made → made ≤ m.setup.config.calls → refused ≤ made → IsKept (record m { made = made; refused = refused })
 kept-counted m made refused kept more few fewer = record {
   config = kept.config;
   assets = kept.assets;
   has_desktop = kept.has_desktop;
+  buffers = kept.buffers;
+  screen = kept.screen;
   width = kept.width;
   height = kept.height;
   scene = kept.scene;
   handles = let handles = kept.handles in omega arith;
   devices = let devices = kept.devices in omega arith;
+  switches = let switches = kept.switches in omega arith;
   made = few;
   refused = fewer;
 }
@@ -68,26 +83,55 @@ refill-whole xs ws e =
 pub length-windows_after_job : (ws : List Win) → length (windows_after_job ws) ≡ length ws
 length-windows_after_job ws = length-same ws (windows_after_job ws) (bare-job ws)
 
-pub jobs-step : (setup : Setup) (s : State) (which : ℕ) → position is_invalid s.windows ≡ Some which → jobs_of s.windows ≡ suc (jobs_of (after_job setup s).windows)
+pub jobs-step : (setup : Setup) (s : Desk) (which : ℕ) → position is_invalid s.windows ≡ Some which → jobs_of s.windows ≡ suc (jobs_of (after_job setup s).windows)
 jobs-step setup s which e = jobs-more s.windows which e
 
-pub exec-more : (setup : Setup) (total : State) (m n : Machine) (which : ℕ) → m.setup ≡ setup → position is_invalid m.state.windows ≡ Some which → n ≡ record m { state = after_job m.setup m.state }
-    → after_jobs setup (jobs_of m.state.windows) m.state ≡ total → after_jobs setup (jobs_of n.state.windows) n.state ≡ total
+pub exec-more : (setup : Setup) (total : Desk) (m n : Machine) (which : ℕ) → m.setup ≡ setup → position is_invalid m.state.windows ≡ Some which → Paints m 1 (after_job m.setup (desk_of m.state)) n
+    → after_jobs setup (jobs_of m.state.windows) (desk_of m.state) ≡ total → after_jobs setup (jobs_of n.state.windows) (desk_of n.state) ≡ total
 exec-more setup total m n which same first is so_far =
-    ap (λ (k : Machine). after_jobs setup (jobs_of k.state.windows) k.state) is
-    ∙ ap (λ (k : Setup). after_jobs setup (jobs_of (after_job k m.state).windows) (after_job k m.state)) same
-    ∙ ap (λ (k : ℕ). after_jobs setup k m.state) (sym (jobs-step setup m.state which first))
+    ap (λ (d : Desk). after_jobs setup (jobs_of d.windows) d) is.desk
+    ∙ ap (λ (k : Setup). after_jobs setup (jobs_of (after_job k (desk_of m.state)).windows) (after_job k (desk_of m.state))) same
+    ∙ ap (λ (k : ℕ). after_jobs setup k (desk_of m.state)) (sym (jobs-step setup (desk_of m.state) which first))
     ∙ so_far
 
+-- the screen after one job more
+drawn_more : (n jobs : ℕ) (p q : Picture) (first s t : Screen) → s ≡ cond (eqb jobs 0) first (after_draw n q first) → t ≡ after_draw n p s → t ≡ cond (eqb (jobs + 1) 0) first (after_draw n p first)
+drawn_more n jobs p q first s t so_far then =
+    then
+    ∙ ap (after_draw n p) so_far
+    ∙ by_jobs (eqb jobs 0)
+    ∙ sym (ap (λ (b : Bool). cond b first (after_draw n p first)) (ne_eqb (jobs + 1) 0 (λ none. absurd (omega (arith, none)))))
+  where
+    by_jobs : (b : Bool) → after_draw n p (cond b first (after_draw n q first)) ≡ after_draw n p first
+    by_jobs true = refl
+    by_jobs false = drawn_twice n p q first
+
 -- a job changes the state alone
-pub rest-more : (first m n : Machine) (s : State) → m ≡ record first { state = m.state } → n ≡ record m { state = s } → n ≡ record first { state = n.state }
-rest-more first m n s rest e =
-    e ∙ ap (λ (k : Machine). record k { state = s }) rest ∙ ap (λ (t : State). record first { state = t }) (sym (ap (λ (k : Machine). k.state) e))
+pub paints-more : (first m n : Machine) (jobs : ℕ) (d : Desk) → Paints first jobs (desk_of m.state) m → Paints m 1 d n → Paints first (jobs + 1) (desk_of n.state) n
+paints-more first m n jobs d so_far is =
+    let same : m.buffers ≡ first.buffers = ap (λ (k : Machine). k.buffers) so_far.rest in
+    record {
+      rest =
+          is.rest
+          ∙ ap (λ (k : Machine). record k { state = n.state }) so_far.rest;
+      desk = refl;
+      screen = drawn_more first.buffers jobs (desk_of n.state).picture (desk_of m.state).picture first.state.screen m.state.screen n.state.screen so_far.screen
+          (is.screen
+          ∙ ap (λ (p : Picture). after_draw m.buffers p m.state.screen) (ap (λ (k : Desk). k.picture) (sym is.desk))
+          ∙ ap (λ (b : ℕ). after_draw b (desk_of n.state).picture m.state.screen) same);
+    }
 
-pub exec-done : (setup : Setup) (total : State) (first m : Machine) → m ≡ record first { state = m.state } → position is_invalid m.state.windows ≡ None → after_jobs setup (jobs_of m.state.windows) m.state ≡ total → m ≡ record first { state = total }
-exec-done setup total first m rest none so_far =
-    let state : m.state ≡ total = ap (λ (k : ℕ). after_jobs setup k m.state) (sym (no_jobs m.state.windows none)) ∙ so_far in
-    rest ∙ ap (λ (t : State). record first { state = t }) state
+-- and goes on where drawing was begun
+pub begun-more : (m n : Machine) (d : Desk) → Paints m 1 d n → IsBegun m.buffers m.state.screen → IsBegun n.buffers n.state.screen
+begun-more m n d is begun =
+    let same : n.buffers ≡ m.buffers = ap (λ (k : Machine). k.buffers) is.rest in
+    let count : n.state.screen.count ≡ m.state.screen.count = ap (λ (s : Screen). s.count) is.screen in
+    rw (same, count) begun
 
-pub few_jobs : (s : State) → jobs_of s.windows ≤ length s.windows
+pub jobs_done : (setup : Setup) (total : Desk) (first m : Machine) (jobs : ℕ) → Paints first jobs (desk_of m.state) m → position is_invalid m.state.windows ≡ None → after_jobs setup (jobs_of m.state.windows) (desk_of m.state) ≡ total → Paints first jobs total m
+jobs_done setup total first m jobs is none so_far =
+    let all : desk_of m.state ≡ total = ap (λ (k : ℕ). after_jobs setup k (desk_of m.state)) (sym (no_jobs m.state.windows none)) ∙ so_far in
+    subst (λ (d : Desk). Paints first jobs d m) all is
+
+pub few_jobs : (s : Desk) → jobs_of s.windows ≤ length s.windows
 few_jobs s = count_by-le-length is_invalid s.windows

@@ -19,6 +19,9 @@ mod DeviceLemmas
 mod SurfaceLemmas
 mod MemdevLemmas
 mod DamageLemmas
+mod TurnLemmas
+mod StateLemmas
+mod PainterLemmas
 mod SceneryLemmas
 mod WantLemmas
 mod HandleLemmas

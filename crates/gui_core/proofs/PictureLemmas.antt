@@ -17,7 +17,7 @@ use Rattle.frame.proofs.CallerLemmas.{colour_at-changed, changed-picture_of}
 use Rattle.gui_core.specs.Setups.{Setup, screen_of, looks_of}
 use Rattle.invalidate.specs.Invalidation.{is_invalid}
 use Rattle.gui_core.specs.Jobs.{windows_after_job, picture_after_job}
-use Rattle.gui_core.specs.States.{State, after_job}
+use Rattle.gui_core.specs.Desks.{Desk, after_job}
 use Rattle.gui_core.specs.Stains.{Stain, job_paints, without_patch}
 use Rattle.gui_core.specs.Promises.{IsRightOutside}
 use Rattle.gui_core.proofs.JobLemmas.{damage-job, windows-no_job}
@@ -88,18 +88,18 @@ job_leaves setup ws o stain p first clean there =
     and_true true e = e
     and_true false e = refl
 
-pub job_covers : (setup : Setup) (s : State) (stain : Stain) (o : Option ℕ) → position is_invalid s.windows ≡ o → IsPictured setup.config.w setup.config.h s.shown → IsRightOutside setup s stain → IsRightOutside setup (after_job setup s) (without_patch setup s.windows stain)
+pub job_covers : (setup : Setup) (s : Desk) (stain : Stain) (o : Option ℕ) → position is_invalid s.windows ≡ o → IsPictured setup.config.w setup.config.h s.picture → IsRightOutside setup s stain → IsRightOutside setup (after_job setup s) (without_patch setup s.windows stain)
 job_covers setup s stain None none is covers x y x_in y_in outside clean =
     let p : Point = point_at (pos x) (pos y) in
     let same = windows-no_job s.windows none in
-    ap (λ (o : Option ℕ). colour_at (option_map_or (λ k. repainted (looks_of setup s.windows) s.windows k s.shown) o s.shown) x y) none
+    ap (λ (o : Option ℕ). colour_at (option_map_or (λ k. repainted (looks_of setup s.windows) s.windows k s.picture) o s.picture) x y) none
     ∙ covers x y x_in y_in (ap (λ (vs : List Win). is_damaged (looks_of setup vs) vs p) (sym same) ∙ outside) (job_leaves setup s.windows None stain p none clean refl)
     ∙ sym (painted-job setup s.windows p)
 job_covers setup s stain (Some which) first is covers x y x_in y_in outside clean =
     let p : Point = point_at (pos x) (pos y) in
-    let wide : x < s.shown.width = rw (ap (λ (q : Picture). q.width) is.is) x_in in
-    let high : y < s.shown.height = rw (ap (λ (q : Picture). q.height) is.is) y_in in
-    colour_at-job setup s.windows which s.shown x y first wide high
+    let wide : x < s.picture.width = rw (ap (λ (q : Picture). q.width) is.is) x_in in
+    let high : y < s.picture.height = rw (ap (λ (q : Picture). q.height) is.is) y_in in
+    colour_at-job setup s.windows which s.picture x y first wide high
     ∙ elim (cases_Bool (in_patch_at (looks_of setup s.windows) s.windows which p)) [
       | inl here ↦ rw here (sym (painted-job setup s.windows p))
       | inr there ↦

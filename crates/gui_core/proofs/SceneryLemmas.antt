@@ -11,7 +11,7 @@ use Rattle.scene.specs.Clips.{clip_in}
 use Rattle.scene.specs.Families.{new_window, on_top_of, window_changed}
 use Rattle.scene.proofs.CallerLemmas.{bare, bare-area, painted-same}
 use Rattle.calls.specs.declared.call.Call.{Call}
-use Rattle.calls.specs.declared.call.Call.TheVariants.{Create, Delete, MoveTo, MoveBy, Resize, Show, Hide, ToTop, ToBottom, SetClass, Invalidate, InvalidateRect, InvalidateArea, Exec, Exec1, Scan, SetTrans, SetMemdev, SetValue, Send, Select, Colour, BkColour, TextMode, Font, Save, Restore, Fill, Frame, Line, Bitmap, Text, DevCreate, DevDelete, DevSelect, DevCopy}
+use Rattle.calls.specs.declared.call.Call.TheVariants.{Begin, End, Create, Delete, MoveTo, MoveBy, Resize, Show, Hide, ToTop, ToBottom, SetClass, Invalidate, InvalidateRect, InvalidateArea, Exec, Exec1, Scan, SetTrans, SetMemdev, SetValue, Send, Select, Colour, BkColour, TextMode, Font, Save, Restore, Fill, Frame, Line, Bitmap, Text, DevCreate, DevDelete, DevSelect, DevCopy}
 use Rattle.calls.specs.declared.entry.Entry.{Entry}
 use Rattle.calls.specs.declared.entry.Entry.TheVariants as entry
 use Rattle.calls.specs.declared.reply.Reply.{Reply}
@@ -23,11 +23,13 @@ use Rattle.gui_core.specs.Setups.{Setup, screen_of, painter}
 use Rattle.invalidate.specs.Invalidation.{is_invalid}
 use Rattle.gui_core.specs.Changes.{list_after}
 use Rattle.gui_core.specs.Jobs.{jobs_of}
-use Rattle.gui_core.specs.States.{State, Step, Objection, opening, is_context_call, objections, objections_to, refusal_of, unless_refused, changed, created, after_create, after_job, after_jobs, painted, rect_with, effect, other_effect, effect_of, step_of_call, step, state_after}
+use Rattle.gui_core.specs.Desks.{Desk, Step, Objection, opening_desk, is_context_call, objections, refusal_of, unless_refused, changed, created, after_create, after_job, after_jobs, painted, rect_with, effect, other_effect, desk_effect, desk_step, is_drawing}
+use Rattle.gui_core.specs.States.{State, desk_of, opening, objections_to, effect_of, step, state_after}
+use Rattle.gui_core.proofs.StateLemmas.{is_turn_call, plain_step}
 use Rattle.gui_core.specs.Devices.{DevicePictures}
 use Rattle.gui_core.specs.Drawing.{Work, Draw, Copy, Make, Discard, work_of, reply_to}
 use Rattle.gui_core.specs.Windows.{with_memdev}
-use Rattle.gui_core.specs.Promises.{changes_windows, window_calls}
+use Rattle.gui_core.specs.Promises.{is_window_call, changes_windows, window_calls}
 use Rattle.gui_core.proofs.IgnoreLemmas.{bare-job}
 use Rattle.gui_core.proofs.ShapeLemmas.{on_top_of-map}
 use Rattle.gui_core.proofs.MessageLemmas.{changed_both, revalued_at, bare_value, plainly_sent, bare_message}
@@ -35,11 +37,11 @@ use Rattle.gui_core.proofs.BareLemmas.{keeps_bare, bare_after_change, bare_windo
 
 -- ---- a refused call
 
-refused_stays : (o : Option Refusal) (s : State) (done : Step) (refusal : Refusal) → ((r : Refusal) → done.reply ≡ Refused r → ⊥) → (unless_refused o s done).reply ≡ Refused refusal → (unless_refused o s done).state ≡ s
+refused_stays : {S : Type 0} (o : Option Refusal) (s : S) (done : Step S) (refusal : Refusal) → ((r : Refusal) → done.reply ≡ Refused r → ⊥) → (unless_refused o s done).reply ≡ Refused refusal → (unless_refused o s done).state ≡ s
 refused_stays None s done refusal fine e = absurd (fine refusal e)
 refused_stays (Some why) s done refusal fine e = refl
 
-effect_is_no_refusal : (setup : Setup) (s : State) (call : Call) (r : Refusal) → (effect setup s call).reply ≡ Refused r → ⊥
+effect_is_no_refusal : (setup : Setup) (s : Desk) (call : Call) (r : Refusal) → (effect setup s call).reply ≡ Refused r → ⊥
 effect_is_no_refusal setup s (Create parent x y w h class) r e = absurd cc
 effect_is_no_refusal setup s (Delete h) r e = absurd cc
 effect_is_no_refusal setup s (MoveTo h x y) r e = absurd cc
@@ -70,56 +72,62 @@ work_is_no_refusal ds (Copy device x y) r e = absurd cc
 work_is_no_refusal ds (Make w h) r e = absurd cc
 work_is_no_refusal ds (Discard device) r e = absurd cc
 
-other_is_no_refusal : (setup : Setup) (s : State) (actor : ℕ) (o : Option Work) (call : Call) (r : Refusal) → (other_effect setup s actor o call).reply ≡ Refused r → ⊥
+other_is_no_refusal : (setup : Setup) (s : Desk) (actor : ℕ) (o : Option Work) (call : Call) (r : Refusal) → (other_effect setup s actor o call).reply ≡ Refused r → ⊥
 other_is_no_refusal setup s actor None call r e = effect_is_no_refusal setup s call r e
 other_is_no_refusal setup s actor (Some work) call r e = work_is_no_refusal s.devices work r e
 
-pub no_effect_refuses : (setup : Setup) (s : State) (actor : ℕ) (call : Call) (r : Refusal) → (effect_of setup s actor call).reply ≡ Refused r → ⊥
+pub no_effect_refuses : (setup : Setup) (s : Desk) (actor : ℕ) (call : Call) (r : Refusal) → (desk_effect setup s actor call).reply ≡ Refused r → ⊥
 no_effect_refuses setup s actor call r e =
     elim (cases_Bool (is_context_call call)) [
       | inl on ↦ reply_is_done r (rw on at e)
       | inr other ↦ other_is_no_refusal setup s actor (work_of call) call r (rw other at e)
     ]
 
+pub nothing_refuses : (setup : Setup) (s : State) (actor : ℕ) (call : Call) (r : Refusal) → (effect_of setup s actor call).reply ≡ Refused r → ⊥
+nothing_refuses setup s actor Begin r e = reply_is_done r e
+nothing_refuses setup s actor End r e = reply_is_done r e
+nothing_refuses setup s actor call r e = no_effect_refuses setup (desk_of s) actor call r e
+
 pub refusal_changes_nothing : (setup : Setup) (s : State) (e : Entry) (refusal : Refusal) → (step setup s e).reply ≡ Refused refusal → (step setup s e).state ≡ s
 unfolding step
 refusal_changes_nothing setup s (entry.Call actor call) refusal e =
-    refused_stays (refusal_of (objections_to setup s actor call)) s (effect_of setup s actor call) refusal (no_effect_refuses setup s actor call) e
+    refused_stays (refusal_of (objections_to setup s actor call)) s (effect_of setup s actor call) refusal (nothing_refuses setup s actor call) e
+refusal_changes_nothing setup s (entry.Shown k) refusal e = absurd (reply_is_done refusal e)
 
 -- ---- the same scenery
 
 -- two states have the same windows, but for what is invalid
-pub record AreAlike (s t : State) : Type 0 where
+pub record AreAlike (s t : Desk) : Type 0 where
   pub windows : map bare s.windows ≡ map bare t.windows
   pub handles : s.handles ≡ t.handles
 
-alike_refl : (s : State) → AreAlike s s
+alike_refl : (s : Desk) → AreAlike s s
 alike_refl s = record { windows = refl; handles = refl }
 
-alike_sym : (s t : State) → AreAlike s t → AreAlike t s
+alike_sym : (s t : Desk) → AreAlike s t → AreAlike t s
 alike_sym s t e = record { windows = sym e.windows; handles = sym e.handles }
 
-alike_after : (s t u : State) → AreAlike s t → AreAlike t u → AreAlike s u
+alike_after : (s t u : Desk) → AreAlike s t → AreAlike t u → AreAlike s u
 alike_after s t u first second = record { windows = first.windows ∙ second.windows; handles = first.handles ∙ second.handles }
 
-job_alike : (setup : Setup) (s : State) → AreAlike (after_job setup s) s
+job_alike : (setup : Setup) (s : Desk) → AreAlike (after_job setup s) s
 job_alike setup s = record { windows = bare-job s.windows; handles = refl }
 
-jobs_alike : (setup : Setup) (n : ℕ) (s : State) → AreAlike (after_jobs setup n s) s
+jobs_alike : (setup : Setup) (n : ℕ) (s : Desk) → AreAlike (after_jobs setup n s) s
 jobs_alike setup zero s = alike_refl s
 jobs_alike setup (suc n) s = alike_after _ (after_job setup s) s (jobs_alike setup n (after_job setup s)) (job_alike setup s)
 
-painted_alike : (setup : Setup) (s t : State) (n m : ℕ) → AreAlike s t → AreAlike (painted setup s n).state (painted setup t m).state
+painted_alike : (setup : Setup) (s t : Desk) (n m : ℕ) → AreAlike s t → AreAlike (painted setup s n).state (painted setup t m).state
 painted_alike setup s t n m e = alike_after _ s _ (jobs_alike setup n s) (alike_after s t _ e (alike_sym _ t (jobs_alike setup m t)))
 
 -- ---- each call
 
-created_bare : (setup : Setup) (s : State) (w : Win) → map bare (after_create setup s w).windows ≡ on_top_of w.parent (bare w ∷ []) (map bare s.windows)
+created_bare : (setup : Setup) (s : Desk) (w : Win) → map bare (after_create setup s w).windows ≡ on_top_of w.parent (bare w ∷ []) (map bare s.windows)
 created_bare setup s w =
     bare_after_change (screen_of setup) w.handle s.windows (on_top_of w.parent (w ∷ []) s.windows)
     ∙ sym (on_top_of-map bare keeps_bare w.parent (w ∷ []) s.windows)
 
-created_alike : (setup : Setup) (s t : State) (parent : ℕ) (x y : ℤ) (w h class : ℕ) → AreAlike s t → AreAlike (created setup s (new_window (s.handles + 1) parent x y w h class)).state (created setup t (new_window (t.handles + 1) parent x y w h class)).state
+created_alike : (setup : Setup) (s t : Desk) (parent : ℕ) (x y : ℤ) (w h class : ℕ) → AreAlike s t → AreAlike (created setup s (new_window (s.handles + 1) parent x y w h class)).state (created setup t (new_window (t.handles + 1) parent x y w h class)).state
 created_alike setup s t parent x y w h class e = record {
   windows =
       created_bare setup s (new_window (s.handles + 1) parent x y w h class)
@@ -129,7 +137,7 @@ created_alike setup s t parent x y w h class e = record {
   handles = ap (λ (n : ℕ). n + 1) e.handles;
 }
 
-changed_alike : (setup : Setup) (s t : State) (h : ℕ) (c : Change) → AreAlike s t → AreAlike (changed setup s h (list_after h c s.windows)).state (changed setup t h (list_after h c t.windows)).state
+changed_alike : (setup : Setup) (s t : Desk) (h : ℕ) (c : Change) → AreAlike s t → AreAlike (changed setup s h (list_after h c s.windows)).state (changed setup t h (list_after h c t.windows)).state
 changed_alike setup s t h c e = record {
   windows =
       bare_after_change (screen_of setup) h s.windows (list_after h c s.windows)
@@ -141,14 +149,14 @@ changed_alike setup s t h c e = record {
 }
 
 -- the first invalid window's job, if there is one
-abbrev one_job : State → ℕ
+abbrev one_job : Desk → ℕ
 one_job s = cond (list_any is_invalid s.windows) 1 0
 
 bare_memdev : (h : ℕ) (memdev : Bool) (ws : List Win) → map bare (window_changed h (with_memdev memdev) ws) ≡ window_changed h (with_memdev memdev) (map bare ws)
 bare_memdev h memdev ws = changed_both bare (with_memdev memdev) (with_memdev memdev) keeps_bare h ws (λ w. refl)
 
 -- each call leads from alike states to alike ones
-effect_alike : (setup : Setup) (s t : State) (call : Call) → AreAlike s t → AreAlike (effect setup s call).state (effect setup t call).state
+effect_alike : (setup : Setup) (s t : Desk) (call : Call) → AreAlike s t → AreAlike (effect setup s call).state (effect setup t call).state
 effect_alike setup s t (Create parent x y w h class) e = created_alike setup s t parent x y w h class e
 effect_alike setup s t (Delete h) e = changed_alike setup s t h change.Delete e
 effect_alike setup s t (MoveTo h x y) e = changed_alike setup s t h (change.MoveTo x y) e
@@ -193,27 +201,11 @@ effect_alike setup s t Exec1 e = painted_alike setup s t (one_job s) (one_job t)
 effect_alike setup s t Scan e = record { windows = e.windows; handles = e.handles }
 effect_alike setup s t call e = record { windows = e.windows; handles = e.handles }
 
-unless_alike : (o : Option Refusal) (s t : State) (done end : Step) → AreAlike s t → AreAlike done.state end.state → AreAlike (unless_refused o s done).state (unless_refused o t end).state
+unless_alike : (o : Option Refusal) (s t : Desk) (done end : Step Desk) → AreAlike s t → AreAlike done.state end.state → AreAlike (unless_refused o s done).state (unless_refused o t end).state
 unless_alike None s t done end before after = after
 unless_alike (Some refusal) s t done end before after = before
 
--- a call on a context leaves the windows as they are
-context_alike : (setup : Setup) (s : State) (actor : ℕ) (call : Call) → is_context_call call ≡ true → AreAlike s (step_of_call setup s actor call).state
-context_alike setup s actor call on = stays (refusal_of (objections_to setup s actor call))
-  where
-    stays : (o : Option Refusal) → AreAlike s (unless_refused o s (effect_of setup s actor call)).state
-    stays None = rw on (record { windows = refl; handles = refl })
-    stays (Some refusal) = alike_refl s
-
--- nor does work
-work_alike : (setup : Setup) (s : State) (actor : ℕ) (call : Call) (work : Work) → is_context_call call ≡ false → work_of call ≡ Some work → AreAlike s (step_of_call setup s actor call).state
-work_alike setup s actor call work other is = stays (refusal_of (objections_to setup s actor call))
-  where
-    stays : (o : Option Refusal) → AreAlike s (unless_refused o s (effect_of setup s actor call)).state
-    stays None = rw (other, is) (record { windows = refl; handles = refl })
-    stays (Some refusal) = alike_refl s
-
-windows_alike : (setup : Setup) (s t : State) (actor : ℕ) (call : Call) → is_context_call call ≡ false → work_of call ≡ None → AreAlike s t → AreAlike (step_of_call setup s actor call).state (step_of_call setup t actor call).state
+windows_alike : (setup : Setup) (s t : Desk) (actor : ℕ) (call : Call) → is_context_call call ≡ false → work_of call ≡ None → AreAlike s t → AreAlike (desk_step setup s actor call).state (desk_step setup t actor call).state
 windows_alike setup s t actor call other none e =
     let classes = length setup.assets.classes in
     let same : objections classes s.windows call ≡ objections classes t.windows call =
@@ -222,64 +214,110 @@ windows_alike setup s t actor call other none e =
     (subst (λ (l : List Objection). AreAlike (unless_refused (refusal_of l) s (effect setup s call)).state (unless_refused (refusal_of (objections classes t.windows call)) t (effect setup t call)).state) (sym same)
     (unless_alike (refusal_of (objections classes t.windows call)) s t (effect setup s call) (effect setup t call) e (effect_alike setup s t call e)))
 
-others_alike : (setup : Setup) (s t : State) (actor : ℕ) (call : Call) (o : Option Work) → is_context_call call ≡ false → work_of call ≡ o → AreAlike s t → AreAlike (step_of_call setup s actor call).state (step_of_call setup t actor call).state
-others_alike setup s t actor call None other is e = windows_alike setup s t actor call other is e
-others_alike setup s t actor call (Some work) other is e = alike_after _ s _ (alike_sym s _ (work_alike setup s actor call work other is)) (alike_after s t _ e (work_alike setup t actor call work other is))
+-- calls that may change windows are neither on contexts nor work
+window_is_plain : (call : Call) → is_window_call call ≡ true → (is_context_call call ≡ false) × (work_of call ≡ None)
+window_is_plain (Select h) window = absurd cc
+window_is_plain (DevSelect device) window = absurd cc
+window_is_plain (Colour c) window = absurd cc
+window_is_plain (BkColour c) window = absurd cc
+window_is_plain (TextMode trans) window = absurd cc
+window_is_plain (Font font) window = absurd cc
+window_is_plain Save window = absurd cc
+window_is_plain Restore window = absurd cc
+window_is_plain (Fill x0 y0 x1 y1) window = absurd cc
+window_is_plain (Frame x0 y0 x1 y1) window = absurd cc
+window_is_plain (Line x0 y0 x1 y1) window = absurd cc
+window_is_plain (Bitmap bitmap x y) window = absurd cc
+window_is_plain (Text x y string) window = absurd cc
+window_is_plain (DevCreate w h) window = absurd cc
+window_is_plain (DevDelete device) window = absurd cc
+window_is_plain (DevCopy device x y) window = absurd cc
+window_is_plain call window = (refl, refl)
 
-step_alike : (setup : Setup) (s t : State) (e : Entry) → AreAlike s t → AreAlike (step setup s e).state (step setup t e).state
+-- nor do they draw, begin or end
+window_draws_nothing : (d : Desk) (actor : ℕ) (call : Call) → is_window_call call ≡ true → (is_turn_call call ≡ false) × (is_drawing d actor call ≡ false)
+window_draws_nothing d actor Begin window = absurd cc
+window_draws_nothing d actor End window = absurd cc
+window_draws_nothing d actor Exec window = absurd cc
+window_draws_nothing d actor Exec1 window = absurd cc
+window_draws_nothing d actor (Fill x0 y0 x1 y1) window = absurd cc
+window_draws_nothing d actor (Frame x0 y0 x1 y1) window = absurd cc
+window_draws_nothing d actor (Line x0 y0 x1 y1) window = absurd cc
+window_draws_nothing d actor (Bitmap bitmap x y) window = absurd cc
+window_draws_nothing d actor (Text x y string) window = absurd cc
+window_draws_nothing d actor (DevCopy device x y) window = absurd cc
+window_draws_nothing d actor call window = (refl, refl)
+
+-- the states' windows are alike
+abbrev StatesAlike : State → State → Type 0
+StatesAlike s t = AreAlike (desk_of s) (desk_of t)
+
+step_alike : (setup : Setup) (s t : State) (e : Entry) → changes_windows e ≡ true → StatesAlike s t → StatesAlike (step setup s e).state (step setup t e).state
 unfolding step
-step_alike setup s t (entry.Call actor call) e =
-    elim (cases_Bool (is_context_call call)) [
-      | inl on ↦ alike_after _ s _ (alike_sym s _ (context_alike setup s actor call on)) (alike_after s t _ e (context_alike setup t actor call on))
-      | inr other ↦ others_alike setup s t actor call (work_of call) other refl e
-    ]
+step_alike setup s t (entry.Call actor call) window e =
+    let plain = window_is_plain call window in
+    let of_s = window_draws_nothing (desk_of s) actor call window in
+    let of_t = window_draws_nothing (desk_of t) actor call window in
+    let alike = windows_alike setup (desk_of s) (desk_of t) actor call plain.0 plain.1 e in
+    let first = plain_step setup s actor call of_s.0 of_s.1 in
+    let second = plain_step setup t actor call of_t.0 of_t.1 in
+    record {
+      windows = ap (λ (k : Step State). map bare k.state.windows) first ∙ alike.windows ∙ sym (ap (λ (k : Step State). map bare k.state.windows) second);
+      handles = ap (λ (k : Step State). k.state.handles) first ∙ alike.handles ∙ sym (ap (λ (k : Step State). k.state.handles) second);
+    }
+step_alike setup s t (entry.Shown k) window e = absurd cc
 
 -- the other calls change nothing but what is invalid
-other_alike : (setup : Setup) (s : State) (e : Entry) → changes_windows e ≡ false → AreAlike s (step setup s e).state
-unfolding step
-other_alike setup s (entry.Call actor (Create parent x y w h class)) window = absurd cc
-other_alike setup s (entry.Call actor (Delete h)) window = absurd cc
-other_alike setup s (entry.Call actor (MoveTo h x y)) window = absurd cc
-other_alike setup s (entry.Call actor (MoveBy h dx dy)) window = absurd cc
-other_alike setup s (entry.Call actor (Resize h width height)) window = absurd cc
-other_alike setup s (entry.Call actor (Show h)) window = absurd cc
-other_alike setup s (entry.Call actor (Hide h)) window = absurd cc
-other_alike setup s (entry.Call actor (ToTop h)) window = absurd cc
-other_alike setup s (entry.Call actor (ToBottom h)) window = absurd cc
-other_alike setup s (entry.Call actor (SetClass h class)) window = absurd cc
-other_alike setup s (entry.Call actor (SetTrans h trans)) window = absurd cc
-other_alike setup s (entry.Call actor (SetMemdev h memdev)) window = absurd cc
-other_alike setup s (entry.Call actor (SetValue h index value)) window = absurd cc
-other_alike setup s (entry.Call actor (Send h message argument)) window = absurd cc
-other_alike setup s (entry.Call actor (Invalidate h)) window = absurd cc
-other_alike setup s (entry.Call actor (InvalidateRect h x0 y0 x1 y1)) window = absurd cc
-other_alike setup s (entry.Call actor (InvalidateArea x0 y0 x1 y1)) window = absurd cc
-other_alike setup s (entry.Call actor Exec) window = alike_sym _ s (jobs_alike setup (jobs_of s.windows) s)
-other_alike setup s (entry.Call actor Exec1) window = alike_sym _ s (jobs_alike setup (one_job s) s)
-other_alike setup s (entry.Call actor Scan) window = alike_refl s
-other_alike setup s (entry.Call actor (Select h)) window = context_alike setup s actor (Select h) refl
-other_alike setup s (entry.Call actor (DevSelect device)) window = context_alike setup s actor (DevSelect device) refl
-other_alike setup s (entry.Call actor (Colour c)) window = context_alike setup s actor (Colour c) refl
-other_alike setup s (entry.Call actor (BkColour c)) window = context_alike setup s actor (BkColour c) refl
-other_alike setup s (entry.Call actor (TextMode trans)) window = context_alike setup s actor (TextMode trans) refl
-other_alike setup s (entry.Call actor (Font font)) window = context_alike setup s actor (Font font) refl
-other_alike setup s (entry.Call actor Save) window = context_alike setup s actor Save refl
-other_alike setup s (entry.Call actor Restore) window = context_alike setup s actor Restore refl
-other_alike setup s (entry.Call actor (Fill x0 y0 x1 y1)) window = work_alike setup s actor (Fill x0 y0 x1 y1) _ refl refl
-other_alike setup s (entry.Call actor (Frame x0 y0 x1 y1)) window = work_alike setup s actor (Frame x0 y0 x1 y1) _ refl refl
-other_alike setup s (entry.Call actor (Line x0 y0 x1 y1)) window = work_alike setup s actor (Line x0 y0 x1 y1) _ refl refl
-other_alike setup s (entry.Call actor (Bitmap bitmap x y)) window = work_alike setup s actor (Bitmap bitmap x y) _ refl refl
-other_alike setup s (entry.Call actor (Text x y string)) window = work_alike setup s actor (Text x y string) _ refl refl
-other_alike setup s (entry.Call actor (DevCreate w h)) window = work_alike setup s actor (DevCreate w h) _ refl refl
-other_alike setup s (entry.Call actor (DevDelete device)) window = work_alike setup s actor (DevDelete device) _ refl refl
-other_alike setup s (entry.Call actor (DevCopy device x y)) window = work_alike setup s actor (DevCopy device x y) _ refl refl
+context_leaves : (setup : Setup) (d : Desk) (actor : ℕ) (call : Call) → is_context_call call ≡ true → AreAlike d (desk_effect setup d actor call).state
+context_leaves setup d actor call on = rw on (record { windows = refl; handles = refl })
 
-entries_alike : (setup : Setup) (s t : State) (es : List Entry) → AreAlike s t → AreAlike (state_after setup s (window_calls es)) (state_after setup t es)
+work_leaves : (setup : Setup) (d : Desk) (actor : ℕ) (call : Call) (work : Work) → is_context_call call ≡ false → work_of call ≡ Some work → AreAlike d (desk_effect setup d actor call).state
+work_leaves setup d actor call work other is = rw (other, is) (record { windows = refl; handles = refl })
+
+desk_leaves : (setup : Setup) (d : Desk) (actor : ℕ) (call : Call) → is_window_call call ≡ false → AreAlike d (desk_effect setup d actor call).state
+desk_leaves setup d actor (Select h) window = context_leaves setup d actor (Select h) refl
+desk_leaves setup d actor (DevSelect device) window = context_leaves setup d actor (DevSelect device) refl
+desk_leaves setup d actor (Colour c) window = context_leaves setup d actor (Colour c) refl
+desk_leaves setup d actor (BkColour c) window = context_leaves setup d actor (BkColour c) refl
+desk_leaves setup d actor (TextMode trans) window = context_leaves setup d actor (TextMode trans) refl
+desk_leaves setup d actor (Font font) window = context_leaves setup d actor (Font font) refl
+desk_leaves setup d actor Save window = context_leaves setup d actor Save refl
+desk_leaves setup d actor Restore window = context_leaves setup d actor Restore refl
+desk_leaves setup d actor (Fill x0 y0 x1 y1) window = work_leaves setup d actor (Fill x0 y0 x1 y1) _ refl refl
+desk_leaves setup d actor (Frame x0 y0 x1 y1) window = work_leaves setup d actor (Frame x0 y0 x1 y1) _ refl refl
+desk_leaves setup d actor (Line x0 y0 x1 y1) window = work_leaves setup d actor (Line x0 y0 x1 y1) _ refl refl
+desk_leaves setup d actor (Bitmap bitmap x y) window = work_leaves setup d actor (Bitmap bitmap x y) _ refl refl
+desk_leaves setup d actor (Text x y string) window = work_leaves setup d actor (Text x y string) _ refl refl
+desk_leaves setup d actor (DevCreate w h) window = work_leaves setup d actor (DevCreate w h) _ refl refl
+desk_leaves setup d actor (DevDelete device) window = work_leaves setup d actor (DevDelete device) _ refl refl
+desk_leaves setup d actor (DevCopy device x y) window = work_leaves setup d actor (DevCopy device x y) _ refl refl
+desk_leaves setup d actor Exec window = alike_sym _ d (jobs_alike setup (jobs_of d.windows) d)
+desk_leaves setup d actor Exec1 window = alike_sym _ d (jobs_alike setup (one_job d) d)
+desk_leaves setup d actor Scan window = alike_refl d
+desk_leaves setup d actor Begin window = alike_refl d
+desk_leaves setup d actor End window = alike_refl d
+desk_leaves setup d actor call window = absurd cc
+
+effect_leaves : (setup : Setup) (s : State) (actor : ℕ) (call : Call) → is_window_call call ≡ false → StatesAlike s (effect_of setup s actor call).state
+effect_leaves setup s actor Begin window = record { windows = refl; handles = refl }
+effect_leaves setup s actor End window = record { windows = refl; handles = refl }
+effect_leaves setup s actor call window = let alike = desk_leaves setup (desk_of s) actor call window in record { windows = alike.windows; handles = alike.handles }
+
+unless_leaves : (o : Option Refusal) (s : State) (done : Step State) → StatesAlike s done.state → StatesAlike s (unless_refused o s done).state
+unless_leaves None s done alike = alike
+unless_leaves (Some refusal) s done alike = alike_refl (desk_of s)
+
+other_alike : (setup : Setup) (s : State) (e : Entry) → changes_windows e ≡ false → StatesAlike s (step setup s e).state
+unfolding step
+other_alike setup s (entry.Call actor call) window = unless_leaves (refusal_of (objections_to setup s actor call)) s (effect_of setup s actor call) (effect_leaves setup s actor call window)
+other_alike setup s (entry.Shown k) window = record { windows = refl; handles = refl }
+
+entries_alike : (setup : Setup) (s t : State) (es : List Entry) → StatesAlike s t → StatesAlike (state_after setup s (window_calls es)) (state_after setup t es)
 entries_alike setup s t [] alike = alike
 entries_alike setup s t (e ∷ es) alike =
     elim (cases_Bool (changes_windows e)) [
-      | inl window ↦ rw window (entries_alike setup (step setup s e).state (step setup t e).state es (step_alike setup s t e alike))
-      | inr other ↦ rw other (entries_alike setup s (step setup t e).state es (alike_after s t _ alike (other_alike setup t e other)))
+      | inl window ↦ rw window (entries_alike setup (step setup s e).state (step setup t e).state es (step_alike setup s t e window alike))
+      | inr other ↦ rw other (entries_alike setup s (step setup t e).state es (alike_after (desk_of s) (desk_of t) (desk_of (step setup t e).state) alike (other_alike setup t e other)))
     ]
 
 pub painter-alike : (setup : Setup) (ws vs : List Win) → map bare ws ≡ map bare vs → painter setup ws ≡ painter setup vs
@@ -288,5 +326,5 @@ painter-alike setup ws vs e =
 
 pub painting_moves_nothing : (setup : Setup) (es : List Entry) → painter setup (state_after setup (opening setup) (window_calls es)).windows ≡ painter setup (state_after setup (opening setup) es).windows
 painting_moves_nothing setup es =
-    let alike = entries_alike setup (opening setup) (opening setup) es (alike_refl (opening setup)) in
+    let alike = entries_alike setup (opening setup) (opening setup) es (alike_refl (opening_desk setup)) in
     painter-alike setup _ _ alike.windows

@@ -11,7 +11,7 @@ use Rattle.calls.specs.declared.reply.Refusal.{Refusal}
 use Rattle.gui_core.specs.Refusals.{refusal_for, told, Performs}
 use Rattle.gui_core.specs.Windows.{with_class, with_trans}
 use Rattle.calls.specs.declared.reply.Refusal.TheVariants.{NoWindow, NoValue}
-use Rattle.gui_core.specs.States.{refusal_of, no_window, no_value, unchangeable, bad_size, no_class}
+use Rattle.gui_core.specs.Desks.{refusal_of, no_window, no_value, unchangeable, bad_size, no_class}
 use Rattle.gui_core.proofs.SceneLemmas.{found_handle}
 use Rattle.std.proofs.lemmas.Bool.{ne_eqb}
 use Rattle.std.proofs.lemmas.Bool.Decides.{nat_tests}

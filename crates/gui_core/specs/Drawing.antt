@@ -82,13 +82,13 @@ devices_after assets c (Discard device) ds = without_device device ds
 
 -- what is drawn on: the picture of the screen, and the devices
 pub record Surfaces : Type 0 where
-  pub shown : Picture
+  pub picture : Picture
   pub devices : DevicePictures
 
 -- the surfaces after work
 abbrev pub surfaces_after : Assets → Looks → List Win → Context → Work → Surfaces → Surfaces
 surfaces_after assets looks ws c work s = record {
-  shown = after_ink looks ws c (ink_of assets s.devices c work) s.shown;
+  picture = after_ink looks ws c (ink_of assets s.devices c work) s.picture;
   devices = devices_after assets c work s.devices;
 }
 
@@ -96,6 +96,13 @@ surfaces_after assets looks ws c work s = record {
 abbrev pub reply_to : DevicePictures → Work → Reply
 reply_to ds (Make w h) = Device (ds.handles + 1)
 reply_to ds work = Done
+
+-- whether work is drawn on the screen: a shape, while no device is selected, or a copied device
+abbrev pub is_on_screen : Context → Work → Bool
+is_on_screen c (Draw shape) = c.device == 0
+is_on_screen c (Copy device x y) = true
+is_on_screen c (Make w h) = false
+is_on_screen c (Discard device) = false
 
 -- whether work may put down points of the screen
 abbrev pub may_ink : Work → Bool

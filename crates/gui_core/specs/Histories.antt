@@ -1,8 +1,10 @@
 -- The core as its callers see it: what it was opened with, the history of its calls, and what these
 -- come to.
-use Rattle.std.specs.Prelude.{◌≡◌, ℕ, ◌+◌, ◌≤◌, Bool, true, false, not, ◌&&◌, nat_le, None, if◌then◌else◌, List, [], ◌∷◌, ◌++◌, length}
+use Rattle.std.specs.Prelude.{◌≡◌, ℕ, ◌+◌, ◌*◌, ◌≤◌, Bool, true, false, not, ◌&&◌, nat_le, Option, None, Some, if◌then◌else◌, List, [], ◌∷◌, ◌++◌, length, filter}
 use Rattle.std.specs.List.{AllByRecursion}
+use Rattle.std.specs.Option.{option_map_or}
 use Rattle.paint_ops.specs.Kinds.{Assets}
+use Rattle.multibuf.specs.Screens.{number_waiting}
 use Rattle.calls.specs.Actors.{fits}
 use Rattle.calls.specs.declared.config.Config.{Config}
 use Rattle.calls.specs.declared.call.Call.{Call}
@@ -12,7 +14,8 @@ use Rattle.calls.specs.declared.reply.Reply.{Reply}
 use Rattle.calls.specs.declared.reply.Reply.TheVariants.{Refused}
 use Rattle.calls.specs.declared.reply.Refusal.TheVariants.{Full}
 use Rattle.gui_core.specs.Setups.{Setup, setup_for}
-use Rattle.gui_core.specs.States.{State, opening, step, state_after, objections_to, refusal_of, is_refused, is_want_of_memory}
+use Rattle.gui_core.specs.Desks.{refusal_of, is_refused, is_want_of_memory}
+use Rattle.gui_core.specs.States.{State, opening, step, state_after, objections_to}
 use Rattle.gui_core.specs.Machines.{Machine, makes_device}
 
 -- what the core was opened with, and all entries so far, in order
@@ -41,18 +44,48 @@ refusals setup s (e ∷ es) = refused_in setup s e + refusals setup (step setup 
 abbrev pub refused_of : Chronicle → ℕ
 refused_of c = refusals c.setup (opening c.setup) c.history
 
+-- whether the entry is a call, and no mark
+abbrev pub is_call_entry : Entry → Bool
+is_call_entry (entry.Call actor call) = true
+is_call_entry (entry.Shown switch) = false
+
+-- how many of the entries are calls
+abbrev pub calls_in : List Entry → ℕ
+calls_in es = length (filter is_call_entry es)
+
+-- how many of them are marks
+abbrev pub marks_in : List Entry → ℕ
+marks_in es = length (filter (λ e. not (is_call_entry e)) es)
+
 -- as many calls were made as the core was opened for
 abbrev pub is_full : Chronicle → Bool
-is_full c = nat_le c.setup.config.calls (length c.history)
+is_full c = nat_le c.setup.config.calls (calls_in c.history)
+
+-- ---- what histories are legal
 
 -- the entry's actor may make its call
 abbrev pub FitsItsActor : Entry → Type 0
 FitsItsActor (entry.Call actor call) = fits call actor ≡ true
+FitsItsActor (entry.Shown switch) = Unit {0}
 
--- each actor may make its calls, and there are no more of them than the core was opened for
+-- a mark stands where its switch waits
+abbrev pub StandsAt : State → Entry → Type 0
+StandsAt s (entry.Call actor call) = Unit {0}
+StandsAt s (entry.Shown switch) = number_waiting s.screen ≡ Some switch
+
+-- so do all marks of the entries after a state
+abbrev pub MarksStand : Setup → State → List Entry → Type 0
+MarksStand setup s [] = Unit {0}
+MarksStand setup s (e ∷ es) = StandsAt s e × MarksStand setup (step setup s e).state es
+
+-- each actor may make its calls, each mark stands where its switch waits, and there are no more
+-- calls than the core was opened for
 pub record IsLegal (c : Chronicle) : Type 0 where
   pub fit : AllByRecursion FitsItsActor c.history
-  pub few : length c.history ≤ c.setup.config.calls
+  pub marks : MarksStand c.setup (opening c.setup) c.history
+  pub few : calls_in c.history ≤ c.setup.config.calls
+
+-- ---- what comes into a history
 
 -- whether a reply tells that there is no room for one call more
 abbrev pub says_full : Reply → Bool
@@ -75,10 +108,29 @@ pub record MayMakeDevice (c : Chronicle) (actor : ℕ) (call : Call) : Type 0 wh
   pub makes : makes_device call ≡ true
   pub free : refusal_of (objections_to c.setup (state_of c) actor call) ≡ None
 
--- The machine is what the entries come to, they are legal, and there is room for all that may come.
+-- the mark that a confirmation enters: that of the switch which waits, if there is one
+abbrev pub mark_of : Option ℕ → List Entry
+mark_of waiting = option_map_or (λ k. entry.Shown k ∷ []) waiting []
+
+-- with the mark of what waits
+abbrev pub ticked : Chronicle → Chronicle
+ticked c = record c { history = c.history ++ mark_of (number_waiting (state_of c).screen) }
+
+-- ---- the machine
+
+-- 1 where a switch waits
+abbrev pub waiting_count : Option ℕ → ℕ
+waiting_count None = 0
+waiting_count (Some k) = 1
+
+-- The machine is what the entries come to, they are legal, and there is room for all that may come:
+-- each call asks for at most one switch, of which there is at most one mark.
 pub record IsRecorded (m : Machine) (history : List Entry) (capacity : ℕ) : Type 0 where
   pub state : m.state ≡ state_after m.setup (opening m.setup) history
-  pub made : m.made ≡ length history
+  pub made : m.made ≡ calls_in history
   pub refused : m.refused ≡ refusals m.setup (opening m.setup) history
   pub legal : IsLegal (record { setup = m.setup; history = history })
-  pub room : m.setup.config.calls ≤ capacity
+  pub marks : length history + waiting_count (number_waiting m.state.screen)
+      ≤ m.made + m.state.screen.switches
+  pub switches : m.state.screen.switches ≤ m.made
+  pub room : 2 * m.setup.config.calls ≤ capacity

@@ -6,6 +6,9 @@ pub mod Refusals
 pub mod Jobs
 pub mod Devices
 pub mod Drawing
+pub mod Desks
+pub mod Turns
+pub mod Panes
 pub mod States
 pub mod Stains
 pub mod Promises

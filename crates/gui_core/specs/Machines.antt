@@ -1,20 +1,26 @@
 -- The core's state with what it was opened with, and how calls are counted. Of these, contracts of
 -- public functions name `IsConfig` alone.
-use Rattle.std.specs.Prelude.{◌≡◌, ℕ, ◌+◌, ◌≤◌, Bool, true, false, None, if◌then◌else◌, length}
+use Rattle.std.specs.Prelude.{◌≡◌, ℕ, ◌+◌, ◌≤◌, Bool, true, false, None, if◌then◌else◌, ◌==◌, length, nat_le}
 use Rattle.paint_ops.specs.Kinds.{Assets}
 use Rattle.paint_ops.specs.Soundness.{IsSound}
 use Rattle.gui_core.specs.Scenes.{IsScene}
+use Rattle.multibuf.specs.Screens.{Screen, after_draw}
 use Rattle.calls.specs.declared.config.Config.{Config}
 use Rattle.calls.specs.declared.call.Call.{Call}
 use Rattle.calls.specs.declared.call.Call.TheVariants.{DevCreate}
 use Rattle.calls.specs.declared.entry.Entry.TheVariants as entry
 use Rattle.calls.specs.declared.reply.Reply.{Reply}
 use Rattle.gui_core.specs.Setups.{Setup, setup_for}
-use Rattle.gui_core.specs.States.{State, Step, opening, objections_to, refusal_of, step_of_call, step, is_refused}
+use Rattle.gui_core.specs.Desks.{Desk, Step, refusal_of, desk_step, is_refused}
+use Rattle.gui_core.specs.States.{State, desk_of, opening, objections_to, step_of_call, step}
 
--- what it was opened with, its state, how many calls were made, and how many of them were refused
+-- what it was opened with, how many buffers there are and their sides, its state, how many calls
+-- were made, and how many of them were refused
 pub record Machine : Type 0 where
   pub setup : Setup
+  pub buffers : ℕ
+  pub width : ℕ
+  pub height : ℕ
   pub state : State
   pub made : ℕ
   pub refused : ℕ
@@ -23,31 +29,58 @@ pub record Machine : Type 0 where
 abbrev pub machine_for : Assets → Config → Machine
 machine_for assets config =
     let setup = setup_for assets config in
-    record { setup = setup; state = opening setup; made = 0; refused = 0 }
+    record {
+      setup = setup;
+      buffers = config.buffers;
+      width = config.w;
+      height = config.h;
+      state = opening setup;
+      made = 0;
+      refused = 0;
+    }
 
 -- the configuration is one that can be opened
 pub record IsConfig (config : Config) : Type 0 where
   pub width : (1 ≤ config.w) × (config.w ≤ 1024)
   pub height : (1 ≤ config.h) × (config.h ≤ 768)
-  pub buffers : config.buffers ≡ 1
+  pub buffers : (1 ≤ config.buffers) × (config.buffers ≤ 3)
   pub calls : config.calls ≤ 400000
 
--- a call took one step, and isn't counted yet
+-- a call that draws nothing did its step on the desk, and isn't counted yet
 pub record Takes (old : Machine) (actor : ℕ) (call : Call) (new : Machine)
     (reply : Reply) : Type 0 where
   pub rest : new ≡ record old { state = new.state }
-  pub step : ◌≡◌ {A = Step} (record { state = new.state; reply = reply })
+  pub screen : new.state.screen ≡ old.state.screen
+  pub step : ◌≡◌ {A = Step Desk} (record { state = desk_of new.state; reply = reply })
+      (desk_step old.setup (desk_of old.state) actor call)
+
+-- such a call does the same whoever makes it
+pub record TakesAlike (old : Machine) (call : Call) (new : Machine) (reply : Reply) : Type 0 where
+  pub by : (actor : ℕ) → Takes old actor call new reply
+
+-- a call took one step, and isn't counted yet
+pub record Makes (old : Machine) (actor : ℕ) (call : Call) (new : Machine)
+    (reply : Reply) : Type 0 where
+  pub rest : new ≡ record old { state = new.state }
+  pub step : ◌≡◌ {A = Step State} (record { state = new.state; reply = reply })
       (step_of_call old.setup old.state actor call)
 
 -- a call takes the same step whoever makes it
-pub record TakesAlike (old : Machine) (call : Call) (new : Machine) (reply : Reply) : Type 0 where
-  pub by : (actor : ℕ) → Takes old actor call new reply
+pub record MakesAlike (old : Machine) (call : Call) (new : Machine) (reply : Reply) : Type 0 where
+  pub by : (actor : ℕ) → Makes old actor call new reply
+
+-- jobs left this desk, and drew its picture if there were any
+pub record Paints (old : Machine) (jobs : ℕ) (d : Desk) (new : Machine) : Type 0 where
+  pub rest : new ≡ record old { state = new.state }
+  pub desk : desk_of new.state ≡ d
+  pub screen : new.state.screen ≡
+      (if jobs == 0 then old.state.screen else after_draw old.buffers d.picture old.state.screen)
 
 -- a call took one step, and was counted
 pub record Counts (old : Machine) (actor : ℕ) (call : Call) (new : Machine)
     (reply : Reply) : Type 0 where
   pub setup : new.setup ≡ old.setup
-  pub step : ◌≡◌ {A = Step} (record { state = new.state; reply = reply })
+  pub step : ◌≡◌ {A = Step State} (record { state = new.state; reply = reply })
       (step old.setup old.state (entry.Call actor call))
   pub made : new.made ≡ old.made + 1
   pub refused : new.refused ≡ old.refused + (if is_refused reply then 1 else 0)
@@ -63,15 +96,24 @@ pub record IsUnmade (old : Machine) (actor : ℕ) (call : Call) (new : Machine) 
   pub makes : makes_device call ≡ true
   pub free : refusal_of (objections_to old.setup old.state actor call) ≡ None
 
+-- What is true of the pictures of n buffers: of one alone none waits, and none is drawn on beside
+-- it; and none is drawn on where drawing isn't begun.
+pub record IsScreen (n : ℕ) (s : Screen) : Type 0 where
+  pub alone : nat_le 2 n ≡ false → (s.waiting ≡ None) × (s.back ≡ None)
+  pub ended : s.count ≡ 0 → s.back ≡ None
+
 -- What is true of every core.
 pub record IsKept (m : Machine) : Type 0 where
   pub config : IsConfig m.setup.config
   pub assets : IsSound m.setup.assets
   pub has_desktop : 1 ≤ length m.setup.assets.classes
-  pub width : m.state.shown.width ≡ m.setup.config.w
-  pub height : m.state.shown.height ≡ m.setup.config.h
+  pub buffers : m.buffers ≡ m.setup.config.buffers
+  pub screen : IsScreen m.buffers m.state.screen
+  pub width : m.width ≡ m.setup.config.w
+  pub height : m.height ≡ m.setup.config.h
   pub scene : IsScene m.setup m.state.windows m.state.handles
   pub handles : m.state.handles ≤ m.made + 1
   pub devices : m.state.devices.handles ≤ m.made
+  pub switches : m.state.screen.switches ≤ m.made
   pub made : m.made ≤ m.setup.config.calls
   pub refused : m.refused ≤ m.made

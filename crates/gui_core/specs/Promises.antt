@@ -1,42 +1,52 @@
--- What holds of the latest picture after any calls.
-use Rattle.std.specs.Prelude.{◌≡◌, ◌≢◌, ℕ, ◌<◌, ◌≤◌, Bool, true, false, pos, List, filter}
+-- What holds of the picture that is drawn on after any calls.
+use Rattle.std.specs.Prelude.{◌≡◌, ◌≢◌, ℕ, ◌<◌, ◌≤◌, Bool, true, false, pos, List, None, filter}
 use Rattle.std.specs.List.{list_any}
 use Rattle.gfx_base.specs.Rects.{point_at}
-use Rattle.frame.specs.Pictures.{colour_at}
+use Rattle.frame.specs.Pictures.{Picture, colour_at}
 use Rattle.scene.specs.declared.win.Win.{Win}
 use Rattle.scene.specs.Painting.{painted}
 use Rattle.scene.specs.Damage.{is_damaged}
 use Rattle.calls.specs.declared.call.Call.{Call}
-use Rattle.calls.specs.declared.call.Call.TheVariants.{Exec, Exec1, Scan, Select, Colour, BkColour, TextMode, Font, Save, Restore, Fill, Frame, Line, Bitmap, Text, DevCreate, DevDelete, DevSelect, DevCopy}
+use Rattle.calls.specs.declared.call.Call.TheVariants.{Begin, End, Exec, Exec1, Scan, Select, Colour, BkColour, TextMode, Font, Save, Restore, Fill, Frame, Line, Bitmap, Text, DevCreate, DevDelete, DevSelect, DevCopy}
 use Rattle.calls.specs.declared.entry.Entry.{Entry}
 use Rattle.calls.specs.declared.entry.Entry.TheVariants as entry
 use Rattle.gui_core.specs.Setups.{Setup, looks_of, painter}
 use Rattle.invalidate.specs.Invalidation.{is_invalid}
-use Rattle.gui_core.specs.States.{State, latest, is_context_call}
+use Rattle.multibuf.specs.Screens.{number_waiting}
+use Rattle.gui_core.specs.Desks.{Desk, is_context_call}
+use Rattle.gui_core.specs.States.{State}
 use Rattle.gui_core.specs.Stains.{Stain}
 
--- at each point of the screen outside the damage and the stain the latest picture is the painter's
-abbrev pub IsRightOutside : Setup → State → Stain → Type 0
+-- at each point of the screen outside the damage and the stain the picture is the painter's
+abbrev pub IsRightOutside : Setup → Desk → Stain → Type 0
 IsRightOutside setup s stain =
     let looks = looks_of setup s.windows in
     (x y : ℕ) → x < setup.config.w → y < setup.config.h
     → is_damaged looks s.windows (point_at (pos x) (pos y)) ≡ false
     → stain (point_at (pos x) (pos y)) ≡ false
-    → colour_at (latest s) x y ≡ painted looks s.windows (point_at (pos x) (pos y))
+    → colour_at s.picture x y ≡ painted looks s.windows (point_at (pos x) (pos y))
 
--- so at each point of the screen outside the stain
-abbrev pub IsPainterOutside : Setup → State → Stain → Type 0
-IsPainterOutside setup s stain =
+-- at each point of the screen outside the stain that picture is the painter's of the windows
+abbrev pub IsPainterOutside : Setup → List Win → Picture → Stain → Type 0
+IsPainterOutside setup ws p stain =
     (x y : ℕ) → x < setup.config.w → y < setup.config.h
     → stain (point_at (pos x) (pos y)) ≡ false
-    → colour_at (latest s) x y ≡ colour_at (painter setup s.windows) x y
+    → colour_at p x y ≡ colour_at (painter setup ws) x y
 
 -- no window is invalid
 abbrev pub NoneInvalid : List Win → Type 0
 NoneInvalid ws = list_any is_invalid ws ≡ false
 
+-- no window is invalid, no begin is open, and no switch waits
+pub record IsQuiet (s : State) : Type 0 where
+  pub valid : NoneInvalid s.windows
+  pub ended : s.screen.count ≡ 0
+  pub switched : number_waiting s.screen ≡ None
+
 -- whether a call may change where windows are, or what they are
 abbrev pub is_window_call : Call → Bool
+is_window_call Begin = false
+is_window_call End = false
 is_window_call Exec = false
 is_window_call Exec1 = false
 is_window_call Scan = false
@@ -61,18 +71,17 @@ is_window_call call = true
 -- whether an entry may
 abbrev pub changes_windows : Entry → Bool
 changes_windows (entry.Call actor call) = is_window_call call
+changes_windows (entry.Shown switch) = false
 
 -- whether an entry may change a context
 abbrev pub changes_contexts : Entry → Bool
 changes_contexts (entry.Call actor call) = is_context_call call
+changes_contexts (entry.Shown switch) = false
 
--- who made the entry's call
-abbrev pub actor_of : Entry → ℕ
-actor_of (entry.Call actor call) = actor
-
--- another task made it
+-- another task made it; no task made a mark
 abbrev pub IsByAnother : ℕ → Entry → Type 0
-IsByAnother task e = (1 ≤ actor_of e) × (task ≢ actor_of e)
+IsByAnother task (entry.Call actor call) = (1 ≤ actor) × (task ≢ actor)
+IsByAnother task (entry.Shown switch) = Unit {0}
 
 -- the entries that may change windows
 abbrev pub window_calls : List Entry → List Entry

@@ -8,11 +8,13 @@ use Rattle.win_tree.specs.declared.refused.TreeRefused.{TreeRefused}
 use Rattle.win_tree.specs.declared.refused.TreeRefused.TheVariants as tree
 use Rattle.memdev.specs.declared.refused.DevRefused.{DevRefused}
 use Rattle.memdev.specs.declared.refused.DevRefused.TheVariants as device
+use Rattle.multibuf.specs.declared.refusals.BeginRefused.{BeginRefused}
+use Rattle.multibuf.specs.declared.refusals.BeginRefused.TheVariants as begin
 use Rattle.calls.specs.declared.reply.Reply.{Reply}
 use Rattle.calls.specs.declared.reply.Reply.TheVariants.{Done, Refused}
 use Rattle.calls.specs.declared.reply.Refusal.{Refusal}
-use Rattle.calls.specs.declared.reply.Refusal.TheVariants.{NoWindow, Desktop, BadSize, TooManyWindows, TooDeep, NoDevice, TooManyDevices, Memory}
-use Rattle.gui_core.specs.Drawing.{Surfaces}
+use Rattle.calls.specs.declared.reply.Refusal.TheVariants.{NoWindow, Desktop, BadSize, TooManyWindows, TooDeep, NoDevice, TooManyDevices, OpenDepth, Waiting, Memory}
+use Rattle.gui_core.specs.Panes.{Panes}
 
 -- the core's refusal for the tree's
 abbrev pub refusal_for : TreeRefused → Refusal
@@ -28,6 +30,11 @@ device_refusal device.BadSize = BadSize
 device_refusal device.TooMany = TooManyDevices
 device_refusal (device.NoDevice handle) = NoDevice handle
 device_refusal device.Memory = Memory
+
+-- the core's refusal for that of a begin
+abbrev pub begin_refusal : BeginRefused → Refusal
+begin_refusal begin.OpenDepth = OpenDepth
+begin_refusal (begin.Waiting switch) = Waiting switch
 
 -- the tree's answer, as the core gives it
 abbrev pub told : Result (Unit {0}) TreeRefused → Result (Unit {0}) Refusal
@@ -56,9 +63,8 @@ abbrev pub Alters : Result (Unit {0}) Refusal → Option Refusal → Owned → �
 Alters (Ok _) reason own task old new = (reason ≡ None) × (new ≡ with_owned old task own)
 Alters (Err refusal) reason own task old new = (reason ≡ Some refusal) × (new ≡ old)
 
--- the same for work after which the surfaces are these
-abbrev pub Draws : Result (Unit {0}) Refusal → Option Refusal → Surfaces → Surfaces → Surfaces
-    → Type 0
+-- the same for a call after which the buffers and devices are these
+abbrev pub Draws : Result (Unit {0}) Refusal → Option Refusal → Panes → Panes → Panes → Type 0
 Draws (Ok _) reason now old new = (reason ≡ None) × (new ≡ now)
 Draws (Err refusal) reason now old new = (reason ≡ Some refusal) × (new ≡ old)
 

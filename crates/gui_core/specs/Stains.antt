@@ -14,7 +14,8 @@ use Rattle.invalidate.specs.Invalidation.{is_invalid}
 use Rattle.gui_core.specs.Setups.{Setup, looks_of}
 use Rattle.gui_core.specs.Jobs.{jobs_of}
 use Rattle.gui_core.specs.Drawing.{Work, work_of, ink_of, ink_puts, may_ink}
-use Rattle.gui_core.specs.States.{State, after_job, step, objections_to, refusal_of}
+use Rattle.gui_core.specs.Desks.{Desk, after_job, refusal_of}
+use Rattle.gui_core.specs.States.{State, desk_of, objections_to, step}
 
 -- which points are in it
 abbrev pub Stain : Type 0
@@ -34,20 +35,20 @@ abbrev pub without_patch : Setup → List Win → Stain → Stain
 without_patch setup ws stain = λ p. stain p && not (job_paints setup ws p)
 
 -- so do several jobs
-abbrev pub stain_after_jobs : Setup → ℕ → State → Stain → Stain
+abbrev pub stain_after_jobs : Setup → ℕ → Desk → Stain → Stain
 stain_after_jobs setup zero s stain = stain
 stain_after_jobs setup (suc n) s stain =
     stain_after_jobs setup n (after_job setup s) (without_patch setup s.windows stain)
 
 -- what a call's jobs leave of the stain
-abbrev pub left_stained : Setup → State → Call → Stain → Stain
+abbrev pub left_stained : Setup → Desk → Call → Stain → Stain
 left_stained setup s Exec stain = stain_after_jobs setup (jobs_of s.windows) s stain
 left_stained setup s Exec1 stain =
     stain_after_jobs setup (if list_any is_invalid s.windows then 1 else 0) s stain
 left_stained setup s call stain = stain
 
 -- what a task draws adds its points
-abbrev pub with_points : Setup → State → ℕ → Option Work → Stain → Stain
+abbrev pub with_points : Setup → Desk → ℕ → Option Work → Stain → Stain
 with_points setup s task None stain = stain
 with_points setup s task (Some work) stain =
     let c = (owned_by s.contexts task).context in
@@ -55,15 +56,16 @@ with_points setup s task (Some work) stain =
     λ p. stain p || ink_puts looks s.windows c (ink_of setup.assets s.devices c work) p
 
 -- the stain after a call that isn't refused
-abbrev pub stain_after_call : Setup → State → ℕ → Call → Stain → Stain
+abbrev pub stain_after_call : Setup → Desk → ℕ → Call → Stain → Stain
 stain_after_call setup s task call stain =
     with_points setup s task (work_of call) (left_stained setup s call stain)
 
--- the stain after an entry; a refused call leaves it
+-- the stain after an entry; a refused call and a mark leave it
 abbrev pub stained : Setup → State → Entry → Stain → Stain
 stained setup s (entry.Call actor call) stain =
     if is_some (refusal_of (objections_to setup s actor call)) then stain
-    else stain_after_call setup s actor call stain
+    else stain_after_call setup (desk_of s) actor call stain
+stained setup s (entry.Shown switch) stain = stain
 
 -- the stain after the entries of a history
 abbrev pub stain_after : Setup → State → List Entry → Stain → Stain
@@ -74,3 +76,4 @@ stain_after setup s (e ∷ es) stain =
 -- whether the entry's call may put down points of the screen: it draws a shape or copies a device
 abbrev pub draws : Entry → Bool
 draws (entry.Call actor call) = option_map_or may_ink (work_of call) false
+draws (entry.Shown switch) = false

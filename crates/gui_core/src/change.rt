@@ -2,7 +2,7 @@
 
 ghost use Rattle.std.specs.Prelude.{◌≡◌, ℤ, ◌+ℤ◌, Ok, Err, Some};
 ghost use Rattle.scene.specs.Stacks.{IsStack};
-ghost use Rattle.gui_core.specs.States.{refusal_of, objections};
+ghost use Rattle.gui_core.specs.Desks.{refusal_of, objections};
 ghost use Rattle.gui_core.specs.Changes.{call_for, list_after};
 ghost use Rattle.gui_core.specs.Refusals.{Performs, told};
 

@@ -4,7 +4,7 @@ ghost use Rattle.std.specs.Prelude.{◌≡◌, ◌≤◌, []};
 ghost use Rattle.context.specs.Contexts.{owned_by};
 ghost use Rattle.gui_core.specs.Changes.{context_call};
 ghost use Rattle.gui_core.specs.Refusals.{Alters};
-ghost use Rattle.gui_core.specs.States.{refusal_of, context_objections, context_after};
+ghost use Rattle.gui_core.specs.Desks.{refusal_of, context_objections, context_after};
 
 use crate::surfaces::{SCREEN, Surfaces};
 use crate::windows::Windows;

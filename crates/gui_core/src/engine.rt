@@ -1,6 +1,6 @@
 //! What the calls of the core change.
 
-ghost use Rattle.std.specs.Prelude.{◌≡◌, ◌+◌, ◌<◌, ◌≤◌, length, IfOk, OnErr};
+ghost use Rattle.std.specs.Prelude.{◌≡◌, ◌≢◌, ◌+◌, ◌<◌, ◌≤◌, length, IfOk, OnErr};
 ghost use Rattle.paint_ops.specs.Soundness.{IsSound};
 
 use crate::change::Change;
@@ -37,10 +37,13 @@ impl Model for Engine {
 
     ghost view = { λ g. record {
       setup = record { config = g.config; assets = g.assets };
+      buffers = g.surfaces.buffers;
+      width = g.surfaces.width;
+      height = g.surfaces.height;
       state = record {
         windows = g.windows.windows;
         handles = g.windows.handles;
-        shown = g.surfaces.shown;
+        screen = g.surfaces.screen;
         contexts = g.contexts;
         devices = g.surfaces.devices;
       };
@@ -50,10 +53,13 @@ impl Model for Engine {
 
     ghost invariant = { λ g. IsKept (record {
       setup = record { config = g.config; assets = g.assets };
+      buffers = g.surfaces.buffers;
+      width = g.surfaces.width;
+      height = g.surfaces.height;
       state = record {
         windows = g.windows.windows;
         handles = g.windows.handles;
-        shown = g.surfaces.shown;
+        screen = g.surfaces.screen;
         contexts = g.contexts;
         devices = g.surfaces.devices;
       };
@@ -103,18 +109,20 @@ fn answered(answer: Result<(), Refusal>) -> Reply
 }
 
 impl Engine {
-    ghost use Rattle.std.specs.Prelude.{if◌then◌else◌, Some, position};
-    ghost use Rattle.std.specs.List.{list_any};
+    ghost use Rattle.std.specs.Prelude.{Some, position};
+    ghost use Rattle.multibuf.specs.Screens.{number_waiting, after_mark};
     ghost use Rattle.gui_core.specs.Setups.{painter};
     ghost use Rattle.invalidate.specs.Invalidation.{is_invalid};
     ghost use Rattle.calls.specs.declared.call.Call.TheVariants.{Create};
     ghost use Rattle.gui_core.specs.Jobs.{jobs_of};
-    ghost use Rattle.calls.specs.declared.call.Call.TheVariants.{DevCreate, DevDelete, DevCopy, SetMemdev};
+    ghost use Rattle.calls.specs.declared.call.Call.TheVariants.{Begin, End, Exec, Exec1, DevCreate, DevDelete, DevCopy, SetMemdev};
     ghost use Rattle.gui_core.specs.Changes.{call_for, context_call, stroke_call};
-    ghost use Rattle.gui_core.specs.States.{after_job, after_jobs};
-    ghost use Rattle.gui_core.specs.Machines.{IsConfig, Takes, TakesAlike, Counts, IsUnmade, machine_for};
+    ghost use Rattle.gui_core.specs.Panes.{IsBegun, ended, Begins};
+    ghost use Rattle.gui_core.specs.Desks.{after_job, after_jobs};
+    ghost use Rattle.gui_core.specs.States.{desk_of};
+    ghost use Rattle.gui_core.specs.Machines.{IsConfig, Takes, TakesAlike, Makes, MakesAlike, Paints, Counts, IsUnmade, machine_for};
 
-    /// The desktop alone, which is invalid, on a black picture. In the place of class 0 comes the
+    /// The desktop alone, which is invalid, on black buffers. In the place of class 0 comes the
     /// desktop's: the configuration's colour alone.
     pub fn open(alloc: Global, assets: Assets, config: Config) -> Result<Engine, Memory>
         requires config { IsConfig config }
@@ -122,7 +130,7 @@ impl Engine {
         requires desktop { 1 ≤ length assets.classes }
         ensures { IfOk result (λ engine. engine ≡ machine_for assets config) }
     {
-        let surfaces = Surfaces::open(alloc, config.w, config.h)?;
+        let surfaces = Surfaces::open(alloc, config.w, config.h, config.buffers)?;
         let windows = Windows::open(alloc, config.w, config.h)?;
         let assets = with_desktop(alloc, assets, &config);
         let contexts = Contexts::new();
@@ -153,7 +161,7 @@ impl Engine {
 
     /// The picture that is shown.
     pub fn shown(&self) -> &Frame
-        ensures { result.now.picture ≡ self.now.state.shown }
+        ensures { result.now.picture ≡ self.now.state.screen.shown }
     {
         self.surfaces.shown()
     }
@@ -180,7 +188,7 @@ impl Engine {
         self.refused
     }
 
-    /// The painter's picture of the windows, in the frame that showed the picture.
+    /// The painter's picture of the windows, in the frame that they are composed in.
     pub fn into_painted(self) -> Frame
         ensures { result.picture ≡ painter self.setup self.state.windows }
     {
@@ -193,36 +201,37 @@ impl Engine {
             made: _,
             refused: _,
         } = self;
-        let mut shown = surfaces.into_shown();
-        paint_whole(windows.stack(), &assets, &mut shown);
-        shown
+        let mut painted = surfaces.into_composed();
+        paint_whole(windows.stack(), &assets, &mut painted);
+        painted
     }
 
     /// The first invalid window.
     fn next_job(&self) -> Option<usize>
         ensures next { result ≡ position is_invalid self.now.state.windows }
         ensures few { length self.now.state.windows ≤ 256 }
+        ensures buffers { self.now.buffers ≡ self.now.setup.config.buffers }
     {
         first_invalid(self.windows.stack())
     }
 
     fn do_job(&mut self, which: usize)
-        requires { position is_invalid self.old.state.windows ≡ Some which }
-        ensures { self.new ≡ record self.old { state = after_job self.old.setup self.old.state } }
+        requires first { position is_invalid self.old.state.windows ≡ Some which }
+        requires begun { IsBegun self.old.buffers self.old.state.screen }
+        ensures { Paints self.old 1 (after_job self.old.setup (desk_of self.old.state)) self.new }
     {
         self.surfaces
             .paint(self.windows.stack(), which, &self.assets);
         self.windows.make_valid(which);
     }
 
-    /// Paints until no window is invalid, and tells how many jobs that took.
-    fn exec(&mut self) -> u16
+    /// Paints until no window is invalid, and tells how many jobs that took. Drawing was begun, or
+    /// there is one buffer.
+    fn do_jobs(&mut self) -> u16
+        requires begun { IsBegun self.old.buffers self.old.state.screen }
         ensures jobs { result ≡ jobs_of self.old.state.windows }
-        ensures state { self.new
-            ≡ record self.old {
-              state = after_jobs self.old.setup
-                  (jobs_of self.old.state.windows) self.old.state;
-            } }
+        ensures desk { Paints self.old result (after_jobs self.old.setup
+            (jobs_of self.old.state.windows) (desk_of self.old.state)) self.new }
     {
         let mut jobs = 0;
         while let Some(which) = self.next_job() {
@@ -232,19 +241,83 @@ impl Engine {
         jobs
     }
 
-    /// Does the first job, if there is one, and tells how many that were.
-    fn exec1(&mut self) -> u16
-        ensures jobs { result ≡ (if list_any is_invalid self.old.state.windows then 1 else 0) }
-        ensures state { self.new
-            ≡ record self.old { state = after_jobs self.old.setup result self.old.state } }
+    /// Begins drawing where it isn't begun, and tells whether it did.
+    fn begin_own(&mut self) -> Result<bool, Refusal>
+        ensures screen { Begins result self.old.buffers self.old.state.screen
+            self.new.state.screen }
+        ensures rest { self.new ≡ record self.old {
+          state = record self.old.state { screen = self.new.state.screen };
+        } }
     {
-        match self.next_job() {
-            Some(which) => {
-                self.do_job(which);
-                1
-            }
-            None => 0,
+        self.surfaces.begin_own()
+    }
+
+    /// Ends drawing, which was begun, where a call began by itself.
+    fn end_own(&mut self, own: bool)
+        requires begun { self.old.state.screen.count ≢ 0 }
+        requires room { self.old.state.screen.switches < self.old.made }
+        ensures { self.new ≡ record self.old {
+          state = record self.old.state { screen = ended own self.old.state.screen };
+        } }
+    {
+        self.surfaces.end_own(own);
+    }
+
+    /// Does all jobs, on what it begins for them if there are any and nothing was begun.
+    fn exec(&mut self) -> Reply
+        requires { self.old.state.screen.switches < self.old.made }
+        ensures { MakesAlike self.old Exec self.new result }
+    {
+        if self.next_job().is_none() {
+            return Reply::Jobs(0);
         }
+        let own = match self.begin_own() {
+            Ok(own) => own,
+            Err(refusal) => return Reply::Refused(refusal),
+        };
+        let jobs = self.do_jobs();
+        self.end_own(own);
+        Reply::Jobs(jobs)
+    }
+
+    /// Does the first job, if there is one, in the same way.
+    fn exec1(&mut self) -> Reply
+        requires { self.old.state.screen.switches < self.old.made }
+        ensures { MakesAlike self.old Exec1 self.new result }
+    {
+        let Some(which) = self.next_job() else {
+            return Reply::Jobs(0);
+        };
+        let own = match self.begin_own() {
+            Ok(own) => own,
+            Err(refusal) => return Reply::Refused(refusal),
+        };
+        self.do_job(which);
+        self.end_own(own);
+        Reply::Jobs(1)
+    }
+
+    fn begin(&mut self) -> Reply
+        ensures { MakesAlike self.old Begin self.new result }
+    {
+        answered(self.surfaces.begin())
+    }
+
+    fn end(&mut self) -> Reply
+        requires { self.old.state.screen.switches < self.old.made }
+        ensures { MakesAlike self.old End self.new result }
+    {
+        answered(self.surfaces.end())
+    }
+
+    /// Shows what waits, and gives the number of its switch.
+    pub fn tick(&mut self) -> Option<u32>
+        ensures switch { result ≡ number_waiting self.old.state.screen }
+        ensures shown { self.new ≡ record self.old {
+          state = record self.old.state { screen = after_mark result self.old.state.screen };
+        } }
+    {
+        self.surfaces.tick()
     }
 
     fn create(&mut self, new: &NewWindow) -> Reply
@@ -332,8 +405,9 @@ impl Engine {
     }
 
     fn stroke(&mut self, task: u16, shape: &Shape) -> Reply
-        requires { (1 ≤ task) × (task ≤ 16) }
-        ensures { Takes self.old task (stroke_call shape.now) self.new result }
+        requires task { (1 ≤ task) × (task ≤ 16) }
+        requires room { self.old.state.screen.switches < self.old.made }
+        ensures { Makes self.old task (stroke_call shape.now) self.new result }
     {
         answered(
             self.surfaces.draw(
@@ -346,8 +420,9 @@ impl Engine {
     }
 
     fn copy_device(&mut self, actor: u16, device: u32, x: i16, y: i16) -> Reply
-        requires { (1 ≤ actor) × (actor ≤ 16) }
-        ensures { Takes self.old actor (DevCopy device x y) self.new result }
+        requires actor { (1 ≤ actor) × (actor ≤ 16) }
+        requires room { self.old.state.screen.switches < self.old.made }
+        ensures { Makes self.old actor (DevCopy device x y) self.new result }
     {
         answered(
             self.surfaces.copy(
@@ -389,7 +464,8 @@ impl Engine {
         requires actor { (1 ≤ actor) × (actor ≤ 16) }
         requires handles { self.old.state.handles ≤ self.old.made }
         requires devices { self.old.state.devices.handles < self.old.made }
-        ensures made { IfOk result (λ reply. Takes self.old actor call.now self.new reply) }
+        requires switches { self.old.state.screen.switches < self.old.made }
+        ensures made { IfOk result (λ reply. Makes self.old actor call.now self.new reply) }
         ensures unmade { OnErr result (IsUnmade self.old actor call.now self.new) }
     {
         Ok(match *call {
@@ -452,8 +528,10 @@ impl Engine {
             Call::InvalidateArea { x0, y0, x1, y1 } => {
                 self.invalidate_area(&local_rect(x0, y0, x1, y1))
             }
-            Call::Exec => Reply::Jobs(self.exec()),
-            Call::Exec1 => Reply::Jobs(self.exec1()),
+            Call::Begin => self.begin(),
+            Call::End => self.end(),
+            Call::Exec => self.exec(),
+            Call::Exec1 => self.exec1(),
             Call::Scan => Reply::Done,
         })
     }
@@ -482,7 +560,7 @@ impl Engine {
     }
 }
 
-ghost use Rattle.gui_core.specs.States.{rect_with};
+ghost use Rattle.gui_core.specs.Desks.{rect_with};
 ghost use Rattle.invalidate.specs.Invalidation.{IsLocal};
 
 /// The rectangle with these corners.

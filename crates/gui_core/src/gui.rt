@@ -1,10 +1,11 @@
 //! The core as its callers see it: the history of its calls, and what these come to.
 
-ghost use Rattle.std.specs.Prelude.{◌≡◌, ◌≤◌, true, false, length, IfOk};
+ghost use Rattle.std.specs.Prelude.{◌≡◌, ◌<◌, ◌≤◌, [], ◌∷◌, ◌++◌, vec_capacity, true, false, is_some, length, IfOk};
 ghost use Rattle.paint_ops.specs.Soundness.{IsSound};
+ghost use Rattle.multibuf.specs.Screens.{number_waiting};
 ghost use Rattle.calls.specs.Actors.{fits};
 ghost use Rattle.gui_core.specs.Setups.{painter};
-ghost use Rattle.gui_core.specs.States.{is_want_of_memory};
+ghost use Rattle.gui_core.specs.Desks.{is_want_of_memory};
 ghost use Rattle.gui_core.specs.Machines.{IsConfig};
 
 use crate::engine::Engine;
@@ -16,8 +17,8 @@ use scene::Stack;
 use std::alloc::Global;
 use std::marker::Model;
 
-/// The core of one screen. Contracts see what it was opened with, and the history of its calls: all
-/// else is what these come to, one after the other.
+/// The core of one screen. Contracts see what it was opened with, and the history of its calls and
+/// of the switches that its display made: all else is what these come to, one after the other.
 #[derive(Drop)]
 pub struct Gui {
     engine: Engine,
@@ -35,12 +36,24 @@ impl Model for Gui {
     ghost invariant = { λ g. IsRecorded g.engine g.history.items (vec_capacity g.history) };
 }
 
-impl Gui {
-    ghost use Rattle.gui_core.specs.Histories.{starting, state_of, refused_of, is_full, says_full, is_entered, IsLegal, Answers, MayMakeDevice};
+/// Enters an entry, for which there is room.
+fn enter(history: &mut Vec<Entry>, entry: Entry)
+    requires { length history.old.items < vec_capacity history.old }
+    ensures items { history.new.items ≡ history.old.items ++ entry ∷ [] }
+    ensures capacity { vec_capacity history.new ≡ vec_capacity history.old }
+{
+    // The prover asks that a body names the types that an entry holds.
+    let _: Option<Call> = None;
+    history.push_reserved(entry);
+}
 
-    /// The desktop alone, which is invalid, on a black picture, and an empty history. What windows
+impl Gui {
+    ghost use Rattle.gui_core.specs.Histories.{starting, state_of, refused_of, is_full, says_full, is_entered, IsLegal, Answers, MayMakeDevice, ticked};
+
+    /// The desktop alone, which is invalid, on black buffers, and an empty history. What windows
     /// paint with is sound and has a class 0, in whose place comes the desktop's: the
-    /// configuration's colour alone. The screen has from 1 by 1 to 1,024 by 768 points. Refused for
+    /// configuration's colour alone. The screen has from 1 by 1 to 1,024 by 768 points, and from 1
+    /// to 3 buffers. It is its own display, which shows what waits by `tick` alone. Refused for
     /// want of memory alone; no later call takes any but the one that makes a device.
     pub fn open_alone(alloc: Global, assets: Assets, config: Config) -> Result<Gui, Memory>
         requires config { IsConfig config }
@@ -48,15 +61,16 @@ impl Gui {
         requires desktop { 1 ≤ length assets.classes }
         ensures { IfOk result (λ gui. gui ≡ starting assets config) }
     {
-        let Ok(history) = Vec::with_capacity(alloc, config.calls as usize) else {
+        let Ok(history) = Vec::with_capacity(alloc, 2 * config.calls as usize) else {
             return Err(Memory);
         };
         let engine = Engine::open(alloc, assets, config)?;
         Ok(Gui { engine, history })
     }
 
-    /// All calls that were made, in order, each with its actor. They are one legal sequence: each
-    /// actor may make its calls, and there are no more of them than the core was opened for.
+    /// All calls that were made, in order, each with its actor, and between them a mark for each
+    /// switch that was made. They are one legal sequence: each actor may make its calls, each mark
+    /// stands where its switch waits, and there are no more calls than the core was opened for.
     pub fn history(&self) -> &[Entry]
         ensures entries { result.now ≡ self.now.history }
         ensures legal { IsLegal self.now }
@@ -75,7 +89,7 @@ impl Gui {
 
     /// The picture that is shown.
     pub fn shown(&self) -> &Frame
-        ensures { result.now.picture ≡ (state_of self.now).shown }
+        ensures { result.now.picture ≡ (state_of self.now).screen.shown }
     {
         self.engine.shown()
     }
@@ -104,12 +118,27 @@ impl Gui {
         self.engine.refused()
     }
 
-    /// The painter's picture of the windows, in the frame that showed the picture.
+    /// The painter's picture of the windows, apart from any buffer.
     pub fn into_painted(self) -> Frame
         ensures { result.picture ≡ painter self.setup (state_of self).windows }
     {
         let Gui { engine, history: _ } = self;
         engine.into_painted()
+    }
+
+    /// The display shows what waits, and its mark is the history's last entry. Tells whether
+    /// anything waited; else nothing changes.
+    pub fn tick(&mut self) -> bool
+        ensures waited { result ≡ is_some (number_waiting (state_of self.old).screen) }
+        ensures entered { self.new ≡ ticked self.old }
+    {
+        match self.engine.tick() {
+            Some(switch) => {
+                enter(&mut self.history, Entry::Shown { switch });
+                true
+            }
+            None => false,
+        }
     }
 
     /// Whether as many calls were made as the core was opened for.
@@ -142,10 +171,13 @@ impl Gui {
         }
         match self.engine.apply(alloc, actor, call) {
             Ok(reply) => {
-                self.history.push_reserved(Entry::Call {
-                    actor,
-                    call: call.copy(),
-                });
+                enter(
+                    &mut self.history,
+                    Entry::Call {
+                        actor,
+                        call: call.copy(),
+                    },
+                );
                 reply
             }
             Err(Memory) => Reply::Refused(Refusal::Memory),

@@ -10,36 +10,64 @@ ghost use Rattle.calls.specs.declared.entry.Entry.{Entry};
 ghost use Rattle.calls.specs.declared.entry.Entry.TheVariants as entry;
 ghost use Rattle.gui_core.specs.Devices.{picture_on};
 ghost use Rattle.gui_core.specs.Setups.{Setup, looks_of, painter};
-ghost use Rattle.gui_core.specs.States.{State, latest, opening, step, state_after};
+ghost use Rattle.multibuf.specs.Screens.{latest};
+ghost use Rattle.gui_core.specs.Desks.{is_refused};
+ghost use Rattle.gui_core.specs.States.{State, desk_of, opening, step, state_after};
 ghost use Rattle.gui_core.specs.Stains.{Stain, no_stain, stained, stain_after, draws};
-ghost use Rattle.gui_core.specs.Promises.{IsRightOutside, IsPainterOutside, NoneInvalid, window_calls, changes_contexts, IsByAnother};
+ghost use Rattle.gui_core.specs.Promises.{IsRightOutside, IsPainterOutside, NoneInvalid, IsQuiet, window_calls, changes_contexts, IsByAnother};
 
 use calls::{Call, Refusal, Reply};
 
-/// Does nothing. After any calls the latest picture is the painter's outside the damage and the
-/// stain, which is what tasks drew directly and no job has painted since. Where no window is
-/// invalid it is the painter's outside the stain, and where no task drew the whole painter's
-/// picture. A call that draws nothing stains no point.
+/// Does nothing. After any calls and marks the picture that is drawn on is the painter's outside
+/// the damage and the stain, which is what tasks drew directly and no job has painted since. Where
+/// no window is invalid it is the painter's outside the stain, and where no task drew the whole
+/// painter's picture. A call that draws nothing stains no point. An exec that isn't refused leaves
+/// no window invalid.
 pub fn damage_covers_change()
     ensures covers { (setup : Setup) (es : List Entry)
-        → IsRightOutside setup (state_after setup (opening setup) es)
+        → IsRightOutside setup (desk_of (state_after setup (opening setup) es))
         (stain_after setup (opening setup) es no_stain) }
-    ensures quiet { (setup : Setup) (es : List Entry)
+    ensures valid { (setup : Setup) (es : List Entry)
         → NoneInvalid (state_after setup (opening setup) es).windows
-        → IsPainterOutside setup (state_after setup (opening setup) es)
+        → IsPainterOutside setup (state_after setup (opening setup) es).windows
+        (latest (state_after setup (opening setup) es).screen)
         (stain_after setup (opening setup) es no_stain) }
     ensures undrawn { (setup : Setup) (es : List Entry) → list_any draws es ≡ false
         → NoneInvalid (state_after setup (opening setup) es).windows
-        → latest (state_after setup (opening setup) es)
+        → latest (state_after setup (opening setup) es).screen
         ≡ painter setup (state_after setup (opening setup) es).windows }
     ensures clean { (setup : Setup) (s : State) (e : Entry) (stain : Stain) (p : Point)
         → draws e ≡ false → stain p ≡ false → stained setup s e stain p ≡ false }
     ensures exec { (setup : Setup) (s : State) (actor : ℕ)
+        → is_refused (step setup s (entry.Call actor Call.Exec)).reply ≡ false
         → NoneInvalid (step setup s (entry.Call actor Call.Exec)).state.windows }
     ensures visible { (setup : Setup) (ws : List Win) (p : Point)
         → painted (looks_of setup ws) ws p
         ≡ painted_over (looks_of setup ws) p 0
         (visible (looks_of setup ws) (windows_at (looks_of setup ws) ws p)) }
+{}
+
+/// Does nothing. With two or three buffers no call changes the picture that is shown: only a mark
+/// shows another one. After any calls and marks, where no window is invalid, no begin is open and
+/// no switch waits, the picture that is shown is the one that is drawn on; so it is the painter's
+/// outside the stain, and where no task drew the whole painter's picture.
+pub fn shown_picture_is_whole()
+    ensures calls { (setup : Setup) (s : State) (actor : ℕ) (call : Call)
+        → 2 ≤ setup.config.buffers
+        → (step setup s (entry.Call actor call)).state.screen.shown ≡ s.screen.shown }
+    ensures latest { (setup : Setup) (es : List Entry)
+        → IsQuiet (state_after setup (opening setup) es)
+        → (state_after setup (opening setup) es).screen.shown
+        ≡ latest (state_after setup (opening setup) es).screen }
+    ensures quiet { (setup : Setup) (es : List Entry)
+        → IsQuiet (state_after setup (opening setup) es)
+        → IsPainterOutside setup (state_after setup (opening setup) es).windows
+        (state_after setup (opening setup) es).screen.shown
+        (stain_after setup (opening setup) es no_stain) }
+    ensures undrawn { (setup : Setup) (es : List Entry) → list_any draws es ≡ false
+        → IsQuiet (state_after setup (opening setup) es)
+        → (state_after setup (opening setup) es).screen.shown
+        ≡ painter setup (state_after setup (opening setup) es).windows }
 {}
 
 /// Does nothing. A refused call changes nothing.

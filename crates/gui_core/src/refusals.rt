@@ -3,7 +3,7 @@
 ghost use Rattle.std.specs.Prelude.{◌≡◌, ℤ};
 ghost use Rattle.calls.specs.declared.call.Call.TheVariants.{Create};
 ghost use Rattle.gui_core.specs.Refusals.{refusal_for};
-ghost use Rattle.gui_core.specs.States.{refusal_of, objections};
+ghost use Rattle.gui_core.specs.Desks.{refusal_of, objections};
 
 use calls::Refusal;
 use win_tree::{Tree, TreeRefused};

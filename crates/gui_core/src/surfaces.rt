@@ -1,18 +1,21 @@
-//! What is drawn on: the picture of the screen, and the devices.
+//! What is drawn on: the buffers of the screen, and the devices.
 
-ghost use Rattle.std.specs.Prelude.{◌≡◌, ◌+◌, ◌<◌, ◌≤◌, [], ◌∷◌, None, Err, length, is_some, IfOk, IfErr, IfSome, OnOk, OnErr};
+ghost use Rattle.std.specs.Prelude.{◌≡◌, ◌≢◌, ◌+◌, ◌<◌, ◌≤◌, [], ◌∷◌, Some, None, Err, true, length, is_some, IfOk, IfErr, IfSome, OnOk, OnErr};
 ghost use Rattle.std.specs.List.{AllByRecursion};
 ghost use Rattle.frame.specs.Pictures.{picture_of};
 ghost use Rattle.paint_ops.specs.Soundness.{IsSound, IsOperation};
-ghost use Rattle.scene.specs.Looks.{IsPaintable, screen_with, looks_of};
+ghost use Rattle.scene.specs.Looks.{IsPaintable};
 ghost use Rattle.scene.specs.Places.{AreSingle};
 ghost use Rattle.scene.specs.Damage.{repainted};
-ghost use Rattle.strokes.specs.Strokes.{operation_of, colour_of_stroke, inked_whole};
+ghost use Rattle.strokes.specs.Strokes.{operation_of, colour_of_stroke, colour_of_copy, stroked, inked_whole};
 ghost use Rattle.calls.specs.declared.reply.Refusal.TheVariants as Refused;
 ghost use Rattle.gui_core.specs.Devices.{no_device_pictures, picture_on, with_new_device, without_device, with_drawing};
-ghost use Rattle.gui_core.specs.Drawing.{Draw, Copy, with_ink, surfaces_after};
+ghost use Rattle.multibuf.specs.Screens.{latest, number_waiting, after_begin, after_end, after_mark};
+ghost use Rattle.gui_core.specs.Turns.{showing, none_free, begin_objections, end_objections};
+ghost use Rattle.gui_core.specs.Drawing.{Draw, Copy, with_ink};
+ghost use Rattle.gui_core.specs.Panes.{looks_on, IsBegun, with_drawn, with_turn, panes_after, pane_objections, ended, Begins};
 ghost use Rattle.gui_core.specs.Refusals.{Draws, Passes, device_refusal};
-ghost use Rattle.gui_core.specs.States.{refusal_of, no_window, no_device, shape_objections, making_objections, work_objections};
+ghost use Rattle.gui_core.specs.Desks.{refusal_of, no_window, no_device, shape_objections, making_objections};
 
 use crate::windows::place_of;
 use calls::Refusal;
@@ -21,6 +24,7 @@ use exec_paint::job;
 use frame::Frame;
 use gfx_base::{Colour, Memory};
 use memdev::{DevRefused, Devices};
+use multibuf::{BeginRefused, Buffers, NotOpen};
 use paint_ops::Assets;
 use scene::Win;
 use std::alloc::Global;
@@ -33,23 +37,28 @@ pub const SCREEN: u32 = 0;
 /// What is drawn on.
 #[derive(Drop)]
 pub struct Surfaces {
-    shown: Frame,
+    buffers: Buffers,
     /// What windows are composed in before they show. It has the screen's sides.
     composed: Frame,
     devices: Devices,
 }
 
 impl Model for Surfaces {
-    ghost use Rattle.std.specs.Prelude.{◌≡◌};
+    ghost use Rattle.multibuf.specs.Screens.{screen_of};
     ghost use Rattle.gui_core.specs.Devices.{seen_devices};
-    ghost use Rattle.gui_core.specs.Drawing.{Surfaces as Seen};
+    ghost use Rattle.gui_core.specs.Panes.{Panes, AreFit};
 
-    ghost Value = { Seen };
+    ghost Value = { Panes };
 
-    ghost view = { λ s. record { shown = s.shown.picture; devices = seen_devices s.devices } };
+    ghost view = { λ s. record {
+      buffers = s.buffers.drawer.buffers;
+      width = s.buffers.width;
+      height = s.buffers.height;
+      screen = screen_of s.buffers;
+      devices = seen_devices s.devices;
+    } };
 
-    ghost invariant = { λ s. (s.composed.picture.width ≡ s.shown.picture.width)
-        × (s.composed.picture.height ≡ s.shown.picture.height) };
+    ghost invariant = { λ s. AreFit s.buffers s.composed };
 }
 
 /// Refuses a shape that names what isn't there.
@@ -86,39 +95,104 @@ fn device_refusal(refused: DevRefused) -> Refusal
 }
 
 impl Surfaces {
-    /// A black picture of these sides in points, and no device.
-    pub fn open(alloc: Global, w: u16, h: u16) -> Result<Surfaces, Memory>
+    /// Black buffers of these sides in points, from 1 to 3 of them, and no device.
+    pub fn open(alloc: Global, w: u16, h: u16, buffers: u8) -> Result<Surfaces, Memory>
         requires width { (1 ≤ w) × (w ≤ 1024) }
         requires height { (1 ≤ h) × (h ≤ 768) }
-        ensures { IfOk result (λ surfaces. surfaces
-            ≡ record { shown = picture_of w h (λ x y. 0); devices = no_device_pictures }) }
+        requires buffers { (1 ≤ buffers) × (buffers ≤ 3) }
+        ensures { IfOk result (λ surfaces. surfaces ≡ record {
+          buffers = buffers;
+          width = w;
+          height = h;
+          screen = showing (picture_of w h (λ x y. 0));
+          devices = no_device_pictures;
+        }) }
     {
-        let shown = Frame::new(alloc, w, h)?;
+        let buffers = Buffers::open_alone(alloc, w, h, buffers)?;
         let composed = Frame::new(alloc, w, h)?;
         Ok(Surfaces {
-            shown,
+            buffers,
             composed,
             devices: Devices::new(),
         })
     }
 
-    /// The picture of the screen.
+    /// The picture that is shown.
     pub fn shown(&self) -> &Frame
-        ensures { result.now.picture ≡ self.now.shown }
+        ensures { result.now.picture ≡ self.now.screen.shown }
     {
-        &self.shown
+        self.buffers.shown()
     }
 
-    /// The picture of the screen alone.
-    pub fn into_shown(self) -> Frame
-        ensures { result.picture ≡ self.shown }
+    /// What windows are composed in, alone.
+    pub fn into_composed(self) -> Frame
+        ensures width { result.picture.width ≡ self.width }
+        ensures height { result.picture.height ≡ self.height }
     {
         let Surfaces {
-            shown,
-            composed: _,
+            buffers: _,
+            composed,
             devices: _,
         } = self;
-        shown
+        composed
+    }
+
+    /// Begins drawing.
+    pub fn begin(&mut self) -> Result<(), Refusal>
+        ensures { let old = self.old in
+            Draws result (refusal_of (begin_objections old.buffers old.screen))
+            (record old { screen = after_begin old.buffers old.screen }) old self.new }
+    {
+        match self.buffers.begin() {
+            Ok(()) => Ok(()),
+            Err(BeginRefused::OpenDepth) => Err(Refusal::OpenDepth),
+            Err(BeginRefused::Waiting(switch)) => Err(Refusal::Waiting(switch)),
+        }
+    }
+
+    /// Ends drawing.
+    pub fn end(&mut self) -> Result<(), Refusal>
+        requires { self.old.screen.switches < 4294967295 }
+        ensures { let old = self.old in
+            Draws result (refusal_of (end_objections old.screen))
+            (record old { screen = after_end old.screen }) old self.new }
+    {
+        match self.buffers.end() {
+            Ok(_) => Ok(()),
+            Err(NotOpen) => Err(Refusal::NotOpen),
+        }
+    }
+
+    /// Begins drawing where it isn't begun, and tells whether it did.
+    pub fn begin_own(&mut self) -> Result<bool, Refusal>
+        ensures screen { Begins result self.old.buffers self.old.screen self.new.screen }
+        ensures rest { self.new ≡ record self.old { screen = self.new.screen } }
+    {
+        if self.buffers.count() > 0 {
+            return Ok(false);
+        }
+        self.begin()?;
+        Ok(true)
+    }
+
+    /// Ends drawing, which was begun, where a call began by itself.
+    pub fn end_own(&mut self, own: bool)
+        requires begun { self.old.screen.count ≢ 0 }
+        requires room { self.old.screen.switches < 4294967295 }
+        ensures { self.new ≡ record self.old { screen = ended own self.old.screen } }
+    {
+        if own {
+            let ended = self.end().is_ok();
+            prove!(ended);
+        }
+    }
+
+    /// Shows what waits, and gives the number of its switch.
+    pub fn tick(&mut self) -> Option<u32>
+        ensures switch { result ≡ number_waiting self.old.screen }
+        ensures shown { self.new ≡ record self.old { screen = after_mark result self.old.screen } }
+    {
+        self.buffers.tick()
     }
 
     /// Whether a device that lives has the handle.
@@ -128,18 +202,49 @@ impl Surfaces {
         self.devices.get(device).is_some()
     }
 
-    /// Paints the window at `which` on the screen's picture.
+    /// Paints the window at `which`. Drawing was begun, or there is one buffer.
     pub fn paint(&mut self, stack: &[Win], which: usize, assets: &Assets)
+        requires begun { IsBegun self.old.buffers self.old.screen }
         requires assets { IsSound assets.now }
         requires few { length stack.now ≤ 256 }
         requires windows { AllByRecursion (IsPaintable assets.now) stack.now }
         requires single { AreSingle stack.now }
         requires which { which < length stack.now }
-        ensures { let old = self.old.shown in
-            let looks = looks_of assets.now (screen_with old.width old.height) stack.now in
-            self.new ≡ record self.old { shown = repainted looks stack.now which old } }
+        ensures { let old = self.old in
+            let looks = looks_on assets.now stack.now old in
+            self.new ≡ with_drawn old (repainted looks stack.now which (latest old.screen)) }
     {
-        let _ = job(stack, which, assets, &mut self.composed, &mut self.shown);
+        let _ = job(
+            stack,
+            which,
+            assets,
+            &mut self.composed,
+            self.buffers.target(),
+        );
+    }
+
+    /// Draws a shape on what was begun, in the window at a place.
+    fn draw_shape(
+        &mut self,
+        stack: &[Win],
+        at: usize,
+        context: &Context,
+        shape: &Shape,
+        assets: &Assets,
+    )
+        requires begun { IsBegun self.old.buffers self.old.screen }
+        requires assets { IsSound assets.now }
+        requires few { length stack.now ≤ 256 }
+        requires windows { AllByRecursion (IsPaintable assets.now) stack.now }
+        requires single { AreSingle stack.now }
+        requires place { at < length stack.now }
+        requires shape { IsOperation assets.now (operation_of context.now shape.now) }
+        ensures { let old = self.old in
+            let looks = looks_on assets.now stack.now old in
+            let ink = colour_of_stroke assets.now context.now shape.now in
+            self.new ≡ with_drawn old (stroked looks stack.now at ink (latest old.screen)) }
+    {
+        let _ = on_screen(stack, at, context, shape, assets, self.buffers.target());
     }
 
     /// Draws a shape on the screen, in the window that the context selects.
@@ -150,23 +255,26 @@ impl Surfaces {
         shape: &Shape,
         assets: &Assets,
     ) -> Result<(), Refusal>
+        requires room { self.old.screen.switches < 4294967295 }
         requires assets { IsSound assets.now }
         requires few { length stack.now ≤ 256 }
         requires windows { AllByRecursion (IsPaintable assets.now) stack.now }
         requires single { AreSingle stack.now }
         requires shape { IsOperation assets.now (operation_of context.now shape.now) }
         ensures { let old = self.old in
-            let looks = looks_of assets.now (screen_with old.shown.width old.shown.height)
-            stack.now in
+            let looks = looks_on assets.now stack.now old in
             let ink = colour_of_stroke assets.now context.now shape.now in
-            Draws result (refusal_of (no_window stack.now context.now.window ∷ []))
-            (record old { shown = with_ink looks stack.now context.now ink old.shown }) old
+            Draws result
+            (refusal_of (no_window stack.now context.now.window ∷ none_free old.buffers old.screen))
+            (with_turn old (with_ink looks stack.now context.now ink (latest old.screen))) old
             self.new }
     {
         let Some(at) = place_of(stack, context.window) else {
             return Err(Refusal::NoWindow(context.window));
         };
-        let _ = on_screen(stack, at, context, shape, assets, &mut self.shown);
+        let own = self.begin_own()?;
+        self.draw_shape(stack, at, context, shape, assets);
+        self.end_own(own);
         Ok(())
     }
 
@@ -201,24 +309,41 @@ impl Surfaces {
         shape: &Shape,
         assets: &Assets,
     ) -> Result<(), Refusal>
+        requires room { self.old.screen.switches < 4294967295 }
         requires assets { IsSound assets.now }
         requires few { length stack.now ≤ 256 }
         requires windows { AllByRecursion (IsPaintable assets.now) stack.now }
         requires single { AreSingle stack.now }
-        ensures { let old = self.old in
-            let work = Draw shape.now in
-            let looks = looks_of assets.now (screen_with old.shown.width old.shown.height)
-            stack.now in
+        ensures { let work = Draw shape.now in
             Draws result
-            (refusal_of
-            (work_objections assets.now stack.now old.devices.live context.now work))
-            (surfaces_after assets.now looks stack.now context.now work old) old self.new }
+            (refusal_of (pane_objections assets.now stack.now context.now work self.old))
+            (panes_after assets.now stack.now context.now work self.old) self.old self.new }
     {
         check_shape(shape, context, assets)?;
         if context.device == SCREEN {
             self.draw_on_screen(stack, context, shape, assets)
         } else {
             self.draw_on_device(context, shape, assets)
+        }
+    }
+
+    /// Copies a device's picture onto what was begun, in the window at a place. The device lives.
+    fn copy_shown(&mut self, stack: &[Win], at: usize, device: u32, x: i16, y: i16, assets: &Assets)
+        requires begun { IsBegun self.old.buffers self.old.screen }
+        requires live { is_some (picture_on self.old.devices.live device) ≡ true }
+        requires assets { IsSound assets.now }
+        requires few { length stack.now ≤ 256 }
+        requires windows { AllByRecursion (IsPaintable assets.now) stack.now }
+        requires single { AreSingle stack.now }
+        requires place { at < length stack.now }
+        ensures { let old = self.old in
+            let looks = looks_on assets.now stack.now old in
+            IfSome (picture_on old.devices.live device) (λ from. self.new
+            ≡ with_drawn old (stroked looks stack.now at (colour_of_copy from x y)
+            (latest old.screen))) }
+    {
+        if let Some(from) = self.devices.get(device) {
+            let _ = copy(stack, at, x, y, from, assets, self.buffers.target());
         }
     }
 
@@ -232,26 +357,25 @@ impl Surfaces {
         y: i16,
         assets: &Assets,
     ) -> Result<(), Refusal>
+        requires room { self.old.screen.switches < 4294967295 }
         requires assets { IsSound assets.now }
         requires few { length stack.now ≤ 256 }
         requires windows { AllByRecursion (IsPaintable assets.now) stack.now }
         requires single { AreSingle stack.now }
-        ensures { let old = self.old in
-            let work = Copy device x y in
-            let looks = looks_of assets.now (screen_with old.shown.width old.shown.height)
-            stack.now in
+        ensures { let work = Copy device x y in
             Draws result
-            (refusal_of
-            (work_objections assets.now stack.now old.devices.live context.now work))
-            (surfaces_after assets.now looks stack.now context.now work old) old self.new }
+            (refusal_of (pane_objections assets.now stack.now context.now work self.old))
+            (panes_after assets.now stack.now context.now work self.old) self.old self.new }
     {
-        let Some(from) = self.devices.get(device) else {
+        if !self.has_device(device) {
             return Err(Refusal::NoDevice(device));
-        };
+        }
         let Some(at) = place_of(stack, context.window) else {
             return Err(Refusal::NoWindow(context.window));
         };
-        let _ = copy(stack, at, x, y, from, assets, &mut self.shown);
+        let own = self.begin_own()?;
+        self.copy_shown(stack, at, device, x, y, assets);
+        self.end_own(own);
         Ok(())
     }
 

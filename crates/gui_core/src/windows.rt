@@ -18,7 +18,7 @@ ghost use Rattle.gui_core.specs.Windows.{is_as_it_was, are_as_they_were, clip_at
 ghost use Rattle.gui_core.specs.Jobs.{windows_after_job};
 ghost use Rattle.gui_core.specs.Changes.{call_for, list_after};
 ghost use Rattle.gui_core.specs.Refusals.{Performs, Creates};
-ghost use Rattle.gui_core.specs.States.{refusal_of, objections};
+ghost use Rattle.gui_core.specs.Desks.{refusal_of, objections};
 
 use crate::change::{Change, perform};
 use crate::jobs::make_valid;

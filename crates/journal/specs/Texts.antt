@@ -1,11 +1,11 @@
 -- The texts that are written: a picture's, the answers to calls, the summary and a fault's line.
-use Rattle.std.specs.Prelude.{ℕ, ◌+◌, List, [], ◌∷◌, ◌++◌, map, Option, Some, None, ◌==◌, if◌then◌else◌, bytes_eq, codes, decimal}
+use Rattle.std.specs.Prelude.{ℕ, ◌+◌, Bool, List, [], ◌∷◌, ◌++◌, map, Option, Some, None, ◌==◌, if◌then◌else◌, bytes_eq, codes, decimal}
 use Rattle.std.specs.List.{join_with_byte}
 use Rattle.spelling.specs.Digits.{hex_colour}
 use Rattle.calls.specs.declared.call.Call.{Call}
 use Rattle.calls.specs.declared.call.Call.TheVariants.{Scan}
 use Rattle.calls.specs.declared.reply.Refusal.{Refusal}
-use Rattle.calls.specs.declared.reply.Refusal.TheVariants.{NoWindow, Desktop, BadSize, TooManyWindows, TooDeep, NoClass, NoValue, NoFont, ContextDepth, NoContext, NoBitmap, NoText, NoDevice, TooManyDevices, Full, Memory}
+use Rattle.calls.specs.declared.reply.Refusal.TheVariants.{NoWindow, Desktop, BadSize, TooManyWindows, TooDeep, NoClass, NoValue, NoFont, ContextDepth, NoContext, NoBitmap, NoText, NoDevice, TooManyDevices, NotOpen, OpenDepth, Waiting, Full, Memory}
 use Rattle.calls.specs.declared.reply.Reply.{Reply}
 use Rattle.calls.specs.declared.reply.Reply.TheVariants.{Done, Handle, Jobs, Device, Refused}
 use Rattle.frame.specs.Pictures.{Picture, rows_of}
@@ -64,6 +64,9 @@ refusal_text (NoBitmap bitmap) = codes "refused NoBitmap " ++ decimal bitmap ++ 
 refusal_text (NoText string) = codes "refused NoText " ++ decimal string ++ codes "\n"
 refusal_text (NoDevice device) = codes "refused NoDevice " ++ decimal device ++ codes "\n"
 refusal_text TooManyDevices = codes "refused TooManyDevices\n"
+refusal_text NotOpen = codes "refused NotOpen\n"
+refusal_text OpenDepth = codes "refused OpenDepth\n"
+refusal_text (Waiting switch) = codes "refused Waiting " ++ decimal switch ++ codes "\n"
 refusal_text Full = codes "refused Full\n"
 refusal_text Memory = codes "refused Memory\n"
 
@@ -79,6 +82,10 @@ reply_text call (Handle handle) shown = codes "ok " ++ decimal handle ++ codes "
 reply_text call (Jobs count) shown = codes "ok " ++ decimal count ++ codes "\n"
 reply_text call (Device device) shown = codes "ok " ++ decimal device ++ codes "\n"
 reply_text call (Refused refusal) shown = refusal_text refusal
+
+-- the line of a tick, by whether a buffer was confirmed
+abbrev pub tick_text : Bool → List ℕ
+tick_text shown = if shown then codes "shown\n" else codes "nothing\n"
 
 -- the line after the last answer: how many calls there were, how many of them were refused, how
 -- many pictures were shown, and how many windows live

@@ -1,8 +1,8 @@
 //! Laws of the texts, each as the contract of a function that does nothing.
 
-ghost use Rattle.std.specs.Prelude.{◌≡◌, ℕ, ◌*◌, ◌≤◌, List, pos, length, codes};
+ghost use Rattle.std.specs.Prelude.{◌≡◌, ℕ, ◌*◌, ◌≤◌, List, pos, true, false, length, codes};
 ghost use Rattle.spelling.specs.Digits.{hex_colour};
-ghost use Rattle.journal.specs.Texts.{points_line, frame_text, reply_text, summary_text, fault_text};
+ghost use Rattle.journal.specs.Texts.{points_line, frame_text, reply_text, tick_text, summary_text, fault_text};
 ghost use Rattle.journal.specs.Examples.{single, striped, mixed_row};
 
 use calls::{Call, Refusal, Reply};
@@ -26,6 +26,10 @@ pub fn texts_in_numbers()
         ≡ codes "refused NoWindow 70000\n" }
     ensures many { reply_text Call.Exec (Reply.Refused Refusal.TooManyWindows) single
         ≡ codes "refused TooManyWindows\n" }
+    ensures waiting { reply_text Call.Begin (Reply.Refused (Refusal.Waiting 3)) single
+        ≡ codes "refused Waiting 3\n" }
+    ensures shown { tick_text true ≡ codes "shown\n" }
+    ensures nothing { tick_text false ≡ codes "nothing\n" }
     ensures summary { summary_text 50 1 22 3
         ≡ codes "done calls 50 refused 1 shown 22 windows 3\n" }
     ensures fault { fault_text 7 (codes "syntax") ≡ codes "fault 7 syntax\n" }

@@ -7,4 +7,4 @@ mod colours;
 pub mod laws;
 mod texts;
 
-pub use texts::{write_fault, write_frame, write_reply, write_summary};
+pub use texts::{write_fault, write_frame, write_reply, write_summary, write_tick};

@@ -2,7 +2,7 @@ ghost use Rattle.std.specs.Prelude.{◌≡◌, ◌+◌, ◌*◌, ◌<◌, ◌≤
 ghost use Rattle.outside.specs.Logs.{Wrote};
 ghost use Rattle.frame.specs.Pictures.{row_at, row_above};
 ghost use Rattle.journal.specs.Texts.{row_line, frame_header, frame_text, refusal_text, done_text};
-ghost use Rattle.journal.specs.Texts.{reply_text, summary_text, fault_text};
+ghost use Rattle.journal.specs.Texts.{reply_text, tick_text, summary_text, fault_text};
 
 use crate::colours::{RowRoom, push_points};
 use calls::{Call, Refusal, Reply};
@@ -121,6 +121,9 @@ fn write_refusal<K: Sink>(out: &mut K, refusal: &Refusal) -> Result<(), SinkFaul
         Refusal::NoText(string) => write_number(out, b"refused NoText ", *string),
         Refusal::NoDevice(device) => write_number(out, b"refused NoDevice ", *device),
         Refusal::TooManyDevices => out.write(b"refused TooManyDevices\n"),
+        Refusal::NotOpen => out.write(b"refused NotOpen\n"),
+        Refusal::OpenDepth => out.write(b"refused OpenDepth\n"),
+        Refusal::Waiting(switch) => write_number(out, b"refused Waiting ", *switch),
         Refusal::Full => out.write(b"refused Full\n"),
         Refusal::Memory => out.write(b"refused Memory\n"),
     }
@@ -154,6 +157,17 @@ pub fn write_reply<K: Sink>(
         Reply::Jobs(count) => write_number(out, b"ok ", *count),
         Reply::Device(device) => write_number(out, b"ok ", *device),
         Reply::Refused(refusal) => write_refusal(out, refusal),
+    }
+}
+
+/// Writes the line of a tick: whether a buffer was confirmed.
+pub fn write_tick<K: Sink>(out: &mut K, shown: bool) -> Result<(), SinkFault>
+    ensures { Wrote result (K.log out.old) (K.log out.new) (tick_text shown) }
+{
+    if shown {
+        out.write(b"shown\n")
+    } else {
+        out.write(b"nothing\n")
     }
 }
 

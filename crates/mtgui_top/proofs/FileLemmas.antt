@@ -6,7 +6,8 @@ use Rattle.outside.specs.Logs.{SinkLog, StoreLog, Whole}
 use Rattle.std.proofs.lemmas.Option.{same_Some}
 use Rattle.outside.specs.Files.{File, IsFile, Gave, file_of}
 use Rattle.script.specs.Scripts.{Script, IsScript, IsNoScript}
-use Rattle.script.proofs.CallerLemmas.{script-take, take-script, fault-take}
+use Rattle.gui_core.specs.Histories.{IsLegal}
+use Rattle.script.proofs.CallerLemmas.{script_ready, script-take, take-script, fault-take}
 use Rattle.mtgui_top.specs.declared.command.Verb.{Verb}
 use Rattle.mtgui_top.specs.declared.command.Verb.TheVariants.{Play, Paint}
 use Rattle.mtgui_top.specs.declared.play.Stop.{Stop}
@@ -14,9 +15,10 @@ use Rattle.mtgui_top.specs.declared.play.Stop.TheVariants as stop
 use Rattle.mtgui_top.specs.declared.play.Finding.{Finding}
 use Rattle.mtgui_top.specs.declared.play.Finding.TheVariants as finding
 use Rattle.mtgui_top.specs.Words.{verb_word, IsCommand}
-use Rattle.mtgui_top.specs.Playing.{play_text, text_for}
+use Rattle.mtgui_top.specs.Playing.{chronicle_of, play_text, text_for}
 use Rattle.mtgui_top.specs.Promises.{ScansShowPainter}
 use Rattle.mtgui_top.specs.Outcome.{IsTextOf, Shows, ShowsFile, CommandEnds}
+use Rattle.mtgui_top.proofs.LegalLemmas.{plays_legally}
 use Rattle.mtgui_top.proofs.ScanLemmas.{scans_show_painter}
 
 take-text : (verb : Verb) (file text : List ℕ) → IsTextOf verb (take 100663297 file) text → IsTextOf verb file text
@@ -78,10 +80,10 @@ shows_of what a b files words m n old new e shows is asked =
 
 -- a played script's scans
 pub scans_played : (files : Option (List File)) (name : List ℕ) (old new : SinkLog) → ShowsFile Play (Ok finding.Script) files name old new
-    → (file : List ℕ) × (script : Script) × IsFile files name file × IsScript file script × ScansShowPainter script × Whole old new (play_text script)
+    → (file : List ℕ) × (script : Script) × IsFile files name file × IsScript file script × IsLegal (chronicle_of script) × ScansShowPainter script × Whole old new (play_text script)
 scans_played files name old new shows =
     let shown = shows.2 in
-    (shows.0, shown.0, shows.1, shown.1, scans_show_painter shown.0, shown.2)
+    (shows.0, shown.0, shows.1, shown.1, plays_legally shown.0 (script_ready shows.0 shown.0 shown.1), scans_show_painter shown.0, shown.2)
 
 -- a painted script's picture
 pub picture_painted : (files : Option (List File)) (name : List ℕ) (old new : SinkLog) → ShowsFile Paint (Ok finding.Script) files name old new

@@ -1,3 +1,4 @@
 mod PlayLemmas
+mod LegalLemmas
 mod ScanLemmas
 mod FileLemmas

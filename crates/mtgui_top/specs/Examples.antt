@@ -15,6 +15,7 @@ abbrev pub first_script : Script
 first_script = script_for (record {
   width = 8;
   height = 4;
+  buffers = 1;
   desktop = 0;
   assets = plain_assets (0 ∷ 255 ∷ []);
   lines = by_task_1 (Create 1 (pos 2) (pos 1) 3 2 1) ∷ by_task_1 Exec ∷ by_task_1 Scan ∷ [];

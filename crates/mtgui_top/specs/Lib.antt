@@ -1,6 +1,6 @@
 pub mod Changes
-pub mod Histories
 pub mod Playing
+pub mod Histories
 pub mod Words
 pub mod Promises
 pub mod Outcome

@@ -8,14 +8,15 @@ ghost use Rattle.outside.specs.Files.{IsFile};
 ghost use Rattle.calls.specs.Actors.{is_task};
 ghost use Rattle.calls.specs.Lines.{call_count, entries_of, FitsItsTask};
 ghost use Rattle.calls.specs.declared.line.Act.TheVariants as Act;
-ghost use Rattle.calls.specs.declared.line.Line.TheVariants.{Task};
+ghost use Rattle.calls.specs.declared.line.Line.TheVariants.{Task, Tick};
 ghost use Rattle.script.specs.Scripts.{Script, IsScript, IsReady};
-ghost use Rattle.gui_core.specs.States.{state_after, is_want_of_memory};
+ghost use Rattle.gui_core.specs.Desks.{is_want_of_memory};
+ghost use Rattle.gui_core.specs.States.{state_after};
 ghost use Rattle.gui_core.specs.Promises.{window_calls, is_window_call};
 ghost use Rattle.mtgui_top.specs.Changes.{may_change, asks_for_device};
-ghost use Rattle.gui_core.specs.Histories.{state_of};
+ghost use Rattle.gui_core.specs.Histories.{state_of, marks_in, IsLegal};
 ghost use Rattle.mtgui_top.specs.Histories.{LineDone, HasRoom, IsFresh};
-ghost use Rattle.mtgui_top.specs.Playing.{play_text, paint_text, reason_text};
+ghost use Rattle.mtgui_top.specs.Playing.{chronicle_of, play_text, paint_text, reason_text};
 ghost use Rattle.mtgui_top.specs.Promises.{ScansShowPainter};
 ghost use Rattle.mtgui_top.specs.Words.{IsCommand};
 ghost use Rattle.mtgui_top.specs.Outcome.{Left, Shows, ShowsFile, CommandEnds, WritesScript, LineEnds, LinesEnd, stop_of, IsStatus, IsComplete};
@@ -25,9 +26,9 @@ ghost use Rattle.mtgui_top.specs.declared.play.Stop.{Stop};
 ghost use Rattle.mtgui_top.specs.declared.play.Finding.{Finding};
 
 use crate::command::{Verb, command};
-use calls::{Act, Call, Line, Refusal, Reply, call_count};
+use calls::{Act, Call, Entry, Line, Refusal, Reply, call_count};
 use gui_core::Gui;
-use journal::{write_fault, write_frame, write_reply, write_summary};
+use journal::{write_fault, write_frame, write_reply, write_summary, write_tick};
 use outside::{ReadRefused, Sink, SinkFault, Store};
 use scene::Stack;
 use script::{MOST_BYTES, Reason, Script, ScriptRefused, read};
@@ -63,6 +64,14 @@ fn perform_call<K: Sink>(
     Ok(())
 }
 
+/// Lets the display show what waits, and writes whether it showed anything.
+fn tick<K: Sink>(out: &mut K, gui: &mut Gui) -> Result<(), Stop>
+    ensures { LineEnds result gui.old Tick gui.new (K.log out.old) (K.log out.new) }
+{
+    write_tick(out, gui.tick())?;
+    Ok(())
+}
+
 /// Does what a line says and writes what it is answered. Without memory for a device nothing is
 /// done or written.
 fn perform_line<K: Sink>(
@@ -81,8 +90,19 @@ fn perform_line<K: Sink>(
             task,
             act: Act::Call(call),
         } => perform_call(alloc, out, gui, *task, call, taken),
-        _ => Ok(()),
+        Line::Task { .. } => Ok(()),
+        Line::Tick => tick(out, gui),
     }
+}
+
+/// How many of the entries are marks of switches that were made.
+fn mark_count(entries: &[Entry]) -> usize
+    ensures { result ≡ marks_in entries.now }
+{
+    entries
+        .iter()
+        .filter(|entry| matches!(entry, Entry::Shown { .. }))
+        .count()
 }
 
 /// Does what lines say and writes what they are answered, and the summary; but ends where there is
@@ -100,7 +120,8 @@ fn perform<K: Sink>(alloc: Global, out: &mut K, gui: &mut Gui, lines: &[Line]) -
     let mut windows = Stack::new();
     gui.windows(&mut windows);
     let refused = gui.refused() as usize;
-    write_summary(out, call_count(lines), refused, 0, windows.len())?;
+    let shown = mark_count(gui.history());
+    write_summary(out, call_count(lines), refused, shown, windows.len())?;
     Ok(())
 }
 
@@ -144,7 +165,6 @@ enum Finding {
     NoScript,
 }
 
-#[tactic(auto, using(crate::proofs::PlayLemmas::few_calls))]
 fn play_script<K: Sink>(alloc: Global, script: Script, out: &mut K) -> Result<(), Stop>
     requires { IsReady script }
     ensures { WritesScript Verb.Play result (K.log out.old) (K.log out.new) script }
@@ -165,7 +185,9 @@ fn is_window_call(call: &Call) -> bool
 {
     !matches!(
         call,
-        Call::Exec
+        Call::Begin
+            | Call::End
+            | Call::Exec
             | Call::Exec1
             | Call::Scan
             | Call::Select { .. }
@@ -233,7 +255,6 @@ fn make_window_calls(alloc: Global, gui: &mut Gui, lines: &[Line])
     }
 }
 
-#[tactic(auto, using(crate::proofs::PlayLemmas::few_calls))]
 fn paint_script<K: Sink>(alloc: Global, script: Script, out: &mut K) -> Result<(), Stop>
     requires { IsReady script }
     ensures { WritesScript Verb.Paint result (K.log out.old) (K.log out.new) script }
@@ -324,12 +345,13 @@ pub fn plain_words<S: Store, K: Sink>(
 ) -> u8
     ensures words { (result ≡ 2)
         ↔ ((verb : Verb) (name : List ℕ) → IsCommand verb words.now name → ⊥) }
-    // The file is a script, and its play text was written, which at each scan at which no window is
-    // invalid has the painter's picture of the windows, at each point that no task drew since it
-    // was painted.
+    // The file is a script, its history is one legal sequence of calls and marks, and its play text
+    // was written. At each scan at which no window is invalid, no begin is open and no switch
+    // waits, that has the painter's picture of the windows, at each point that no task drew since
+    // it was painted.
     ensures played { result ≡ 0 → (name : List ℕ) → IsCommand Verb.Play words.now name
         → (file : List ℕ) × (script : Script) × IsFile (S.log store.old).files name file
-        × IsScript file script × ScansShowPainter script
+        × IsScript file script × IsLegal (chronicle_of script) × ScansShowPainter script
         × Whole (K.log out.old) (K.log out.new) (play_text script) }
     // The file is a script, and the painter's picture of the windows that its calls leave was
     // written.

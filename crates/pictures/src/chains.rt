@@ -1,6 +1,6 @@
 //! Each kind of call alone, and after each other one.
 
-use crate::looks::{HEADER, Looks};
+use crate::looks::{Looks, header};
 use std::alloc::{AllocError, Global};
 
 /// Windows that lie in one another, cover one another and end off the screen, one of them hidden,
@@ -35,13 +35,13 @@ fn add_call(script: &mut String, call: &str) -> Result<(), AllocError> {
 
 /// Looks at the picture after the scene, these calls and one that paints all.
 fn look_after(alloc: Global, calls: &[&str], looks: Looks) -> Option<Looks> {
-    let mut script = String::from_str(alloc, HEADER).ok()?;
+    let mut script = header(alloc, 1).ok()?;
     script.push_str(SCENE).ok()?;
     for call in calls {
         add_call(&mut script, call).ok()?;
     }
     script.push_str("1 exec\n").ok()?;
-    looks.look(alloc, script.as_str())
+    looks.look(alloc, script.as_str(), 0)
 }
 
 /// What is seen after each call. `None` where memory runs out or a command fails.

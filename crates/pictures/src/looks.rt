@@ -5,9 +5,9 @@ use outside::{MemSink, MemStore, NamedFile};
 use std::alloc::{AllocError, Global};
 use std::str;
 
-/// The first lines of each script. Its classes draw by their windows' values, and through one of
-/// them one sees; some react to messages, and hand them on to the windows that they lie in.
-pub const HEADER: &str = "mtgui 1\nscreen 24 16\nbuffers 1\ndesktop 000000\n\
+/// What windows paint with. The classes draw by their windows' values, and through one of them one
+/// sees; some react to messages, and hand them on to the windows that they lie in.
+const ASSETS: &str = "desktop 000000\n\
     font 0 3\nglyph 45 2\n..\n##\n..\nglyph 48 2\n##\n##\n##\nglyph 49 1\n#\n#\n#\n\
     glyph 50 2\n##\n.#\n#.\nglyph 55 2\n##\n.#\n.#\nglyph 65 3\n.#.\n###\n#.#\nend\n\
     bitmap 0 4 3\nFF8000 -*2 FF8000\n-*3 80FF00\n8000FF -*3\nend\nstring 0 A1 0\n\
@@ -20,6 +20,14 @@ pub const HEADER: &str = "mtgui 1\nscreen 24 16\nbuffers 1\ndesktop 000000\n\
     class 4 FFFFFF\ntext 0 1 v1+1 202020 0\non 1 up 1\non 3 add 1 32767\non 3 add 1 -32766\nend\n\
     class 5 -\nframe 0 0 v0+2 h-1 FFFF00\nline 0 v1 w-1 h-1 00FFFF\nbitmap 0 w-5 2\n\
     number 0 2 3 FF00FF v1\non 0 set 1 a\non 0 up 1\non 1 add 1 2\non 1 set 0 4\non 1 up 0\nend\n";
+
+/// The lines of each script before its calls, which has so many buffers.
+pub fn header(alloc: Global, buffers: u16) -> Result<String, AllocError> {
+    let mut script = String::from_str(alloc, "mtgui 1\nscreen 24 16\n")?;
+    writeln!(&mut script, "buffers {buffers}")?;
+    script.push_str(ASSETS)?;
+    Ok(script)
+}
 
 /// Room for what a command writes of a script.
 const ROOM: usize = 100_000;
@@ -46,10 +54,16 @@ fn written(alloc: Global, verb: &str, script: &str) -> Option<MemSink> {
     }
 }
 
-/// Whether the picture that a script's calls show is the painter's.
-fn shows_the_painter(alloc: Global, calls: &str) -> Option<bool> {
+/// Whether a script's calls show the painter's picture once all is painted: at most so many begins
+/// are ended, and what waits is shown.
+fn shows_the_painter(alloc: Global, calls: &str, begun: u16) -> Option<bool> {
     let mut script = String::from_str(alloc, calls).ok()?;
-    script.push_str("1 scan\n").ok()?;
+    for _ in 0..begun {
+        script.push_str("1 end\n").ok()?;
+    }
+    script
+        .push_str("display tick\n1 exec\ndisplay tick\n1 scan\n")
+        .ok()?;
     let played = written(alloc, "play", script.as_str())?;
     let painted = written(alloc, "paint", script.as_str())?;
     let painted = str::from_utf8(painted.bytes()).ok()?;
@@ -72,10 +86,10 @@ impl Looks {
         }
     }
 
-    /// Looks at what a script shows, whose last call paints all. `None` where memory runs out or a
-    /// command fails.
-    pub fn look(self, alloc: Global, script: &str) -> Option<Looks> {
-        let is_right = shows_the_painter(alloc, script)?;
+    /// Looks at what a script shows, in which at most so many begins are open, once all is painted.
+    /// `None` where memory runs out or a command fails.
+    pub fn look(self, alloc: Global, script: &str, begun: u16) -> Option<Looks> {
+        let is_right = shows_the_painter(alloc, script, begun)?;
         Some(Looks {
             count: self.count.saturating_add(1),
             differing: self.differing.saturating_add(u32::from(!is_right)),

@@ -2,7 +2,7 @@
 
 ghost use Rattle.std.specs.Prelude.{◌<◌};
 
-use crate::looks::{HEADER, Looks};
+use crate::looks::{Looks, header};
 use samples::Numbers;
 use std::alloc::{AllocError, Global};
 
@@ -143,17 +143,40 @@ fn add_call(numbers: &mut Numbers, script: &mut String, handles: u16) -> Result<
     }
 }
 
+/// Adds a begin, an end or a tick, and tells whether it is a begin.
+fn add_turn(numbers: &mut Numbers, script: &mut String) -> Result<bool, AllocError> {
+    let turn = numbers.below(4);
+    let line = match turn {
+        0 => "1 begin\n",
+        1 => "1 end\n",
+        _ => "display tick\n",
+    };
+    script.push_str(line)?;
+    Ok(turn == 0)
+}
+
 /// Adds a line on the lock, where it is held during the call beside it.
 fn add_lock(script: &mut String, held: bool, line: &str) -> Result<(), AllocError> {
     if held { script.push_str(line) } else { Ok(()) }
 }
 
-/// Makes a script of so many calls, one in eight of which paints all, and looks at the picture
-/// after each of these. During some calls a task holds the lock.
-fn look(alloc: Global, numbers: &mut Numbers, calls: u16, before: Looks) -> Option<Looks> {
+/// Makes a script of so many buffers and calls, one in eight of which paints all, and looks at the
+/// picture after each of these. Between them are begins, ends and ticks. During some calls a task
+/// holds the lock.
+fn look(
+    alloc: Global,
+    numbers: &mut Numbers,
+    buffers: u16,
+    calls: u16,
+    before: Looks,
+) -> Option<Looks> {
     let mut looks = before;
-    let mut script = String::from_str(alloc, HEADER).ok()?;
+    let mut begun: u16 = 0;
+    let mut script = header(alloc, buffers).ok()?;
     for call in 0..calls {
+        if numbers.below(4) == 0 && add_turn(numbers, &mut script).ok()? {
+            begun = begun.saturating_add(1);
+        }
         let locked = numbers.below(6) == 0;
         let paints = numbers.below(8) == 0;
         add_lock(&mut script, locked, "1 lock\n").ok()?;
@@ -164,19 +187,19 @@ fn look(alloc: Global, numbers: &mut Numbers, calls: u16, before: Looks) -> Opti
         }
         add_lock(&mut script, locked, "1 unlock\n").ok()?;
         if paints {
-            looks = looks.look(alloc, script.as_str())?;
+            looks = looks.look(alloc, script.as_str(), begun)?;
         }
     }
     Some(looks)
 }
 
-/// What is seen of so many scripts, after what was seen before. `None` where memory runs out or a
-/// command fails.
+/// What is seen of so many scripts, of one, two and three buffers in turn, after what was seen
+/// before. `None` where memory runs out or a command fails.
 pub fn look_at_all(alloc: Global, scripts: u16, calls: u16, before: Looks) -> Option<Looks> {
     let mut numbers = Numbers::new(1);
     let mut looks = before;
-    for _ in 0..scripts {
-        looks = look(alloc, &mut numbers, calls, looks)?;
+    for script in 0..scripts {
+        looks = look(alloc, &mut numbers, 1 + script % 3, calls, looks)?;
     }
     Some(looks)
 }

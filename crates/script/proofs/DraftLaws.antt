@@ -21,11 +21,12 @@ use Rattle.script.specs.declared.draft.Stage.{Stage}
 use Rattle.script.specs.declared.draft.Stage.TheVariants as stage
 use Rattle.script.specs.declared.fault.Reason.{Reason}
 use Rattle.script.specs.declared.fault.Reason.TheVariants as reason
-use Rattle.script.specs.Fields.{screen_in, desktop_in, class_in, string_in, font_in, bitmap_in}
+use Rattle.script.specs.Fields.{screen_in, buffers_in, desktop_in, class_in, string_in, font_in, bitmap_in}
 use Rattle.script.specs.Later.{is_one_of, asset_words}
-use Rattle.script.specs.Scripts.{screen_fields, desktop_fields, class_text, string_text, with_string, Item, Title, Screen, Buffers, Desktop, StringOf, CallOf, Before, nothing, after, Spells, plain_class, font_fields, font_text, bitmap_fields, bitmap_text, may_do, HeadFits}
+use Rattle.script.specs.Counts.{count_alike}
+use Rattle.script.specs.Scripts.{screen_fields, buffers_fields, desktop_fields, class_text, string_text, with_string, Item, Title, Screen, Buffers, Desktop, StringOf, CallOf, Before, nothing, after, Spells, plain_class, font_fields, font_text, bitmap_fields, bitmap_text, may_do, HeadFits}
 use Rattle.script.specs.Faults.{IsPrefix, StandsAt, AreWhole, AreOpen, OpensClass, OpensDrawing}
-use Rattle.script.specs.Reading.{Draft, after_value, after_title, after_screen, after_buffers, after_desktop, after_block, after_class, after_string, after_early, after_asset, after_other, after_call, after_body, after_words, after_line, with_screen, with_colour, opened, before_at, place_at, place_of, header_reason, call_reason, empty_draft, gone_on, block_after, closed, after_font, after_bitmap, takes_comments, IsBlock, IsStage, IsDraft, with_call, after_call_line}
+use Rattle.script.specs.Reading.{Draft, after_value, after_title, after_screen, after_buffers, after_desktop, after_block, after_class, after_string, after_early, after_asset, after_other, after_call, after_body, after_words, after_line, with_screen, with_buffers, with_colour, opened, before_at, place_at, place_of, call_reason, empty_draft, gone_on, block_after, closed, after_font, after_bitmap, takes_comments, IsBlock, IsStage, IsDraft, with_call, after_call_line}
 use Rattle.glyph_font.specs.Reading as fonts
 use Rattle.bitmap.specs.Reading as bitmaps
 use Rattle.glyph_font.proofs.CallerLemmas as font_laws
@@ -113,26 +114,27 @@ valued (Some x) why next e is = (x, refl, cc)
 title_stands : (d e : Draft) (lines : List (List ℕ)) (line : List ℕ) → HasItems 0 d lines → after_title d line ≡ Ok e → Next e lines line
 unfolding after_title
 title_stands d e lines line has is =
-    let p = passed (bytes_eq line (codes "mtgui 1")) (record d { stage = stage.Screen }) e (header_reason line) is in
+    let p = passed (bytes_eq line (codes "mtgui 1")) (record d { stage = stage.Screen }) e reason.Header is in
     subst (λ (x : Draft). Next x lines line) p.1 (push 0 1 d (record d { stage = stage.Screen }) lines (line ∷ []) Title has (refl, ap (λ (l : List ℕ). l ∷ []) (named line (codes "mtgui 1") p.0)) refl)
 
 screen_stands : (d e : Draft) (lines : List (List ℕ)) (line : List ℕ) → HasItems 1 d lines → after_screen d line ≡ Ok e → Next e lines line
 unfolding after_screen screen_in
 screen_stands d e lines line has is =
-    let v = valued (screen_in (words_of line)) (header_reason line) (λ sides. with_screen d sides.0 sides.1.0) e is in
+    let v = valued (screen_in (words_of line)) reason.Header (λ sides. with_screen d sides.0 sides.1.0) e is in
     let t = line_values_take (codes "screen") screen_fields line v.0 v.1 in
     subst (λ (x : Draft). Next x lines line) v.2 (push 1 2 d (with_screen d v.0.0 v.0.1.0) lines (line ∷ []) (Screen v.0.0 v.0.1.0) has ((refl, ap (λ (l : List ℕ). l ∷ []) t.0), t.1) refl)
 
 buffers_stands : (d e : Draft) (lines : List (List ℕ)) (line : List ℕ) → HasItems 2 d lines → after_buffers d line ≡ Ok e → Next e lines line
-unfolding after_buffers
+unfolding after_buffers buffers_in
 buffers_stands d e lines line has is =
-    let p = passed (bytes_eq line (codes "buffers 1")) (record d { stage = stage.Desktop }) e (header_reason line) is in
-    subst (λ (x : Draft). Next x lines line) p.1 (push 2 3 d (record d { stage = stage.Desktop }) lines (line ∷ []) Buffers has (refl, ap (λ (l : List ℕ). l ∷ []) (named line (codes "buffers 1") p.0)) refl)
+    let v = valued (buffers_in (words_of line)) reason.Header (λ number. with_buffers d number.0) e is in
+    let t = line_values_take (codes "buffers") buffers_fields line v.0 v.1 in
+    subst (λ (x : Draft). Next x lines line) v.2 (push 2 3 d (with_buffers d v.0.0) lines (line ∷ []) (Buffers v.0.0) has ((refl, ap (λ (l : List ℕ). l ∷ []) t.0), t.1) refl)
 
 desktop_stands : (d e : Draft) (lines : List (List ℕ)) (line : List ℕ) → HasItems 3 d lines → after_desktop d line ≡ Ok e → Next e lines line
 unfolding after_desktop desktop_in
 desktop_stands d e lines line has is =
-    let v = valued (desktop_in (words_of line)) (header_reason line) (λ colour. with_colour d colour.0) e is in
+    let v = valued (desktop_in (words_of line)) reason.Header (λ colour. with_colour d colour.0) e is in
     let t = line_values_take (codes "desktop") desktop_fields line v.0 v.1 in
     subst (λ (x : Draft). Next x lines line) v.2 (push 3 4 d (with_colour d v.0.0) lines (line ∷ []) (Desktop v.0.0) has ((refl, ap (λ (l : List ℕ). l ∷ []) t.0), t.1) refl)
 
@@ -174,10 +176,10 @@ stands_in_body : (d e : Draft) (said : List (List ℕ)) → d.stage ≡ stage.Bo
 stands_in_body d e said body has same = subst (λ (s : Stage). StandsIn s e said) (sym (same ∙ body)) has
 
 -- a call line
-call_line_passed : (d e : Draft) (l : Line) → after_call_line d l ≡ Ok e → (may_do d.locks l ≡ true) × (length d.said.lines < 400000) × (with_call d l ≡ e)
+call_line_passed : (d e : Draft) (l : Line) → after_call_line d l ≡ Ok e → (may_do d.locks l ≡ true) × (count_alike l d.said.lines < 400000) × (with_call d l ≡ e)
 call_line_passed d e l is =
-    elim (chosen (may_do d.locks l) (cond (ltb (length d.said.lines) 400000) (Ok (with_call d l)) (Err reason.Many)) (Err reason.Lock) (Ok e) is) [
-      | inl may ↦ let p = passed (ltb (length d.said.lines) 400000) (with_call d l) e reason.Many may.1 in (may.0, ltb-true _ _ p.0, p.1)
+    elim (chosen (may_do d.locks l) (cond (ltb (count_alike l d.said.lines) 400000) (Ok (with_call d l)) (Err reason.Many)) (Err reason.Lock) (Ok e) is) [
+      | inl may ↦ let p = passed (ltb (count_alike l d.said.lines) 400000) (with_call d l) e reason.Many may.1 in (may.0, ltb-true _ _ p.0, p.1)
       | inr barred ↦ absurd (cc (barred.1))
     ]
 
@@ -324,7 +326,7 @@ asset_stands d e lines line first words body has spelled asset is =
 other_stands : (d e : Draft) (lines : List (List ℕ)) (line : List ℕ) (words : List (List ℕ)) → d.stage ≡ stage.Body → HasItems 4 d lines → words_of line ≡ words → after_other d words ≡ Ok e → Next e lines line
 other_stands d e lines line [] body has spelled is = absurd cc
 other_stands d e lines line (first ∷ words) body has spelled is =
-    elim (chosen (is_one_of asset_words first) (after_asset d first words) (Err (call_reason first words)) (Ok e) is) [
+    elim (chosen (is_one_of asset_words first) (after_asset d first words) (Err (call_reason first)) (Ok e) is) [
       | inl asset ↦ asset_stands d e lines line first words body has spelled asset.0 asset.1
       | inr none ↦ absurd (cc none.1)
     ]
@@ -448,7 +450,7 @@ other_keeps : (d e : Draft) (words : List (List ℕ)) → d.stage ≡ stage.Body
 unfolding after_asset
 other_keeps d e [] at is = absurd cc
 other_keeps d e (first ∷ words) at is =
-    elim (chosen (is_one_of asset_words first) (after_asset d first words) (Err (call_reason first words)) (Ok e) is) [
+    elim (chosen (is_one_of asset_words first) (after_asset d first words) (Err (call_reason first)) (Ok e) is) [
       | inl asset ↦
           elim (chosen (eqb (length d.said.lines) 0) (after_early d first words) (Err reason.Late) (Ok e) asset.1) [
             | inl early ↦ early_keeps d e first words at early.1
@@ -466,13 +468,15 @@ body_keeps d e line at is = by_line (line_of (words_of line)) is where
 
 words_keep : (s : Stage) (d e : Draft) (line : List ℕ) → d.stage ≡ s → IsStage s → after_words s d line ≡ Ok e → IsStage e.stage
 unfolding after_title after_screen after_buffers after_desktop
-words_keep stage.Title d e line at is after = to_stage _ e tt (passed (bytes_eq line (codes "mtgui 1")) (record d { stage = stage.Screen }) e (header_reason line) after).1
+words_keep stage.Title d e line at is after = to_stage _ e tt (passed (bytes_eq line (codes "mtgui 1")) (record d { stage = stage.Screen }) e reason.Header after).1
 words_keep stage.Screen d e line at is after =
-    let v = valued (screen_in (words_of line)) (header_reason line) (λ sides. with_screen d sides.0 sides.1.0) e after in
+    let v = valued (screen_in (words_of line)) reason.Header (λ sides. with_screen d sides.0 sides.1.0) e after in
     to_stage (with_screen d v.0.0 v.0.1.0) e tt v.2
-words_keep stage.Buffers d e line at is after = to_stage _ e tt (passed (bytes_eq line (codes "buffers 1")) (record d { stage = stage.Desktop }) e (header_reason line) after).1
+words_keep stage.Buffers d e line at is after =
+    let v = valued (buffers_in (words_of line)) reason.Header (λ number. with_buffers d number.0) e after in
+    to_stage (with_buffers d v.0.0) e tt v.2
 words_keep stage.Desktop d e line at is after =
-    let v = valued (desktop_in (words_of line)) (header_reason line) (λ colour. with_colour d colour.0) e after in
+    let v = valued (desktop_in (words_of line)) reason.Header (λ colour. with_colour d colour.0) e after in
     to_stage (with_colour d v.0.0) e tt v.2
 words_keep stage.Body d e line at is after = body_keeps d e line at after
 words_keep (stage.Block c) d e line at is after = block_keeps c d e line is after

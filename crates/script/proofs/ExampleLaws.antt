@@ -1,4 +1,4 @@
--- The items of a small script, line by line.
+-- The items of two small scripts, line by line.
 use Rattle.std.proofs.Common.{ℕ, List, [], ◌∷◌, Some, None, refl, arith, lit<}
 use Rattle.std.specs.Prelude.{codes}
 use Rattle.std.specs.Fmt.{digits}
@@ -11,7 +11,7 @@ use Rattle.class_lines.specs.Words.{name_of_word as name_of_class_word}
 use Rattle.calls.specs.Words.{name_of_word}
 use Rattle.paint_ops.specs.Kinds.{Assets}
 use Rattle.script.specs.Scripts.{plain_class, AreClassLines, AreItemsOf}
-use Rattle.script.specs.Examples.{small_assets, greeting, calls_text, class_lines_text, assets_text, small_items, small_lines}
+use Rattle.script.specs.Examples.{small_assets, greeting, calls_text, class_lines_text, assets_text, small_items, small_lines, tick_items, tick_lines}
 
 single_is : IsFont single
 single_is = record {
@@ -90,7 +90,7 @@ small_is = (
       codes "desktop 000000" ∷ assets_text,
       refl,
       tt,
-      (refl, refl),
+      ((refl, refl), ((omega arith, omega arith), tt)),
       (
         [],
         codes "desktop 000000" ∷ [],
@@ -166,6 +166,82 @@ small_is = (
                       ),
                     ),
                   ),
+                ),
+              ),
+            ),
+          ),
+        ),
+      ),
+    ),
+  ),
+)
+
+pub ticks_are : AreItemsOf tick_items tick_lines
+unfolding digits hex_colour name_of_word
+ticks_are = (
+  [],
+  codes "mtgui 1" ∷ [],
+  codes "screen 2 1" ∷ codes "buffers 2" ∷ codes "desktop 000000" ∷ codes "1 lock" ∷ codes "1 begin" ∷ codes "1 end" ∷ codes "display tick" ∷ codes "1 unlock" ∷ [],
+  refl,
+  tt,
+  (refl, refl),
+  (
+    [],
+    codes "screen 2 1" ∷ [],
+    codes "buffers 2" ∷ codes "desktop 000000" ∷ codes "1 lock" ∷ codes "1 begin" ∷ codes "1 end" ∷ codes "display tick" ∷ codes "1 unlock" ∷ [],
+    refl,
+    tt,
+    ((refl, refl), ((omega arith, omega arith), ((omega arith, omega arith), tt))),
+    (
+      [],
+      codes "buffers 2" ∷ [],
+      codes "desktop 000000" ∷ codes "1 lock" ∷ codes "1 begin" ∷ codes "1 end" ∷ codes "display tick" ∷ codes "1 unlock" ∷ [],
+      refl,
+      tt,
+      ((refl, refl), ((omega arith, omega arith), tt)),
+      (
+        [],
+        codes "desktop 000000" ∷ [],
+        codes "1 lock" ∷ codes "1 begin" ∷ codes "1 end" ∷ codes "display tick" ∷ codes "1 unlock" ∷ [],
+        refl,
+        tt,
+        ((refl, refl), (omega arith, tt)),
+        (
+          [],
+          codes "1 lock" ∷ [],
+          codes "1 begin" ∷ codes "1 end" ∷ codes "display tick" ∷ codes "1 unlock" ∷ [],
+          refl,
+          tt,
+          record { header = refl; may = refl; few = omega arith; fits = (omega arith, omega arith, tt); spelled = refl },
+          (
+            [],
+            codes "1 begin" ∷ [],
+            codes "1 end" ∷ codes "display tick" ∷ codes "1 unlock" ∷ [],
+            refl,
+            tt,
+            record { header = refl; may = refl; few = omega arith; fits = (omega arith, omega arith, tt); spelled = refl },
+            (
+              [],
+              codes "1 end" ∷ [],
+              codes "display tick" ∷ codes "1 unlock" ∷ [],
+              refl,
+              tt,
+              record { header = refl; may = refl; few = omega arith; fits = (omega arith, omega arith, tt); spelled = refl },
+              (
+                [],
+                codes "display tick" ∷ [],
+                codes "1 unlock" ∷ [],
+                refl,
+                tt,
+                record { header = refl; may = refl; few = omega arith; fits = tt; spelled = refl },
+                (
+                  [],
+                  codes "1 unlock" ∷ [],
+                  [],
+                  refl,
+                  tt,
+                  record { header = refl; may = refl; few = omega arith; fits = (omega arith, omega arith, tt); spelled = refl },
+                  tt,
                 ),
               ),
             ),

@@ -20,10 +20,10 @@ use Rattle.bitmap.proofs.CallerLemmas as bitmap_laws
 use Rattle.paint_ops.specs.Kinds.{Assets}
 use Rattle.class_lines.specs.declared.line.ClassLine.{ClassLine}
 use Rattle.calls.specs.declared.line.Line.{Line}
-use Rattle.calls.specs.declared.line.Line.TheVariants.{Task}
+use Rattle.calls.specs.declared.line.Line.TheVariants.{Task, Tick}
 use Rattle.calls.specs.Words.{text_of_line, words_of_act, LineFits}
 use Rattle.calls.proofs.CallerLemmas.{line_spelled, line_words_whole}
-use Rattle.script.specs.Scripts.{screen_fields, desktop_fields, class_text, string_text, font_fields, bitmap_fields, IsFontBlock, IsBitmapBlock, Item, Title, Screen, Buffers, Desktop, FontOf, BitmapOf, StringOf, ClassOf, CallOf, Before, nothing, after, IsStringBlock, AreClassLines, IsClassBlock, Spells, AreItemsOf, Script, script_for, listing_of, IsScript, text_of_back}
+use Rattle.script.specs.Scripts.{screen_fields, buffers_fields, desktop_fields, class_text, string_text, font_fields, bitmap_fields, IsFontBlock, IsBitmapBlock, Item, Title, Screen, Buffers, Desktop, FontOf, BitmapOf, StringOf, ClassOf, CallOf, Before, nothing, after, IsStringBlock, AreClassLines, IsClassBlock, Spells, AreItemsOf, Script, script_for, listing_of, IsScript, text_of_back}
 use Rattle.script.proofs.StringLaws.{string_words, string_same}
 use Rattle.script.proofs.ClassHeadLaws.{head_words, head_same}
 use Rattle.script.proofs.BodyLaws.{one_line, one_body, without_end}
@@ -39,6 +39,7 @@ line_same l m fits also e = same_Some l m (sym (line_spelled (text_of_line l) l 
 abbrev tag_of_word : List ℕ → ℕ
 tag_of_word w =
     if is_some (natural_in 1 16 w) then 5 else
+    if bytes_eq w (codes "display") then 5 else
     if bytes_eq w (codes "mtgui") then 0 else
     if bytes_eq w (codes "screen") then 1 else
     if bytes_eq w (codes "buffers") then 2 else
@@ -54,7 +55,7 @@ tag_of_words (w ∷ ws) = tag_of_word w
 abbrev tag : Item → ℕ
 tag Title = 0
 tag (Screen w h) = 1
-tag Buffers = 2
+tag (Buffers n) = 2
 tag (Desktop colour) = 3
 tag (ClassOf back lines) = 4
 tag (CallOf l) = 5
@@ -102,11 +103,14 @@ opens_call (Task task a) block fits is =
     let number = natural_in_again 1 16 task fits.0 fits.1 (lit< tt) in
     let known : tag_of_word (decimal task) ≡ 5 = rw number refl in
     record { line = text_of_line (Task task a); more = []; is = is; known = ap tag_of_words (line_words_whole (Task task a) fits) ∙ known; shown = uncommented (decimal task) (words_of_act a) (omega arith) (omega arith) }
+opens_call Tick block fits is =
+    let known : tag_of_word (codes "display") ≡ 5 = rw (name_tag (codes "display") (lit< tt)) refl in
+    record { line = text_of_line Tick; more = []; is = is; known = ap tag_of_words (line_words_whole Tick fits) ∙ known; shown = refl }
 
 pub opens : (b : Before) (item : Item) (block : List (List ℕ)) → Spells b item block → Opens item block
 opens b Title block is = record { line = codes "mtgui 1"; more = []; is = is.1; known = rw (name_tag (codes "mtgui") (lit< tt)) refl; shown = refl }
 opens b (Screen w h) block is = opens_with (Screen w h) block [] (codes "screen") screen_fields (w, (h, tt)) refl refl is.1 (lit< tt) (lit< tt) (rw (name_tag (codes "screen") (lit< tt)) refl) is.0.1
-opens b Buffers block is = record { line = codes "buffers 1"; more = []; is = is.1; known = rw (name_tag (codes "buffers") (lit< tt)) refl; shown = refl }
+opens b (Buffers n) block is = opens_with (Buffers n) block [] (codes "buffers") buffers_fields (n, tt) refl refl is.1 (lit< tt) (lit< tt) (rw (name_tag (codes "buffers") (lit< tt)) refl) is.0.1
 opens b (Desktop colour) block is = opens_with (Desktop colour) block [] (codes "desktop") desktop_fields (colour, tt) refl refl is.1 (lit< tt) (lit< tt) (rw (name_tag (codes "desktop") (lit< tt)) refl) is.0.1
 opens b (StringOf text) block is = opens_string b text block is
 opens b (ClassOf back lines) block is = opens_class b back lines block is
@@ -165,6 +169,9 @@ bitmaps_apart b bitmap other xs bs ys cs is also e =
 screens_apart : (w h w' h' : ℕ) → AreIn screen_fields (w, (h, tt)) → AreIn screen_fields (w', (h', tt)) → text_with (codes "screen") screen_fields (w, (h, tt)) ≡ text_with (codes "screen") screen_fields (w', (h', tt)) → Screen w h ≡ Screen w' h'
 screens_apart w h w' h' is also e = ap (λ (vs : Values screen_fields). Screen vs.0 vs.1.0) (text_same (codes "screen") screen_fields (w, (h, tt)) (w', (h', tt)) refl refl is also e)
 
+buffers_apart : (n m : ℕ) → AreIn buffers_fields (n, tt) → AreIn buffers_fields (m, tt) → text_with (codes "buffers") buffers_fields (n, tt) ≡ text_with (codes "buffers") buffers_fields (m, tt) → Buffers n ≡ Buffers m
+buffers_apart n m is also e = ap (λ (vs : Values buffers_fields). Buffers vs.0) (text_same (codes "buffers") buffers_fields (n, tt) (m, tt) refl refl is also e)
+
 desktops_apart : (c d : ℕ) → AreIn desktop_fields (c, tt) → AreIn desktop_fields (d, tt) → text_with (codes "desktop") desktop_fields (c, tt) ≡ text_with (codes "desktop") desktop_fields (d, tt) → Desktop c ≡ Desktop d
 desktops_apart c d is also e = ap (λ (vs : Values desktop_fields). Desktop vs.0) (text_same (codes "desktop") desktop_fields (c, tt) (d, tt) refl refl is also e)
 
@@ -175,7 +182,9 @@ apart_by b Title Title xs bs ys cs kind is also e = (refl, (one_line xs bs ys cs
 apart_by b (Screen w h) (Screen w' h') xs bs ys cs kind is also e =
     let parts = one_line xs bs ys cs _ _ is.0.1 also.0.1 e in
     (screens_apart w h w' h' is.1 also.1 parts.0, parts.1)
-apart_by b Buffers Buffers xs bs ys cs kind is also e = (refl, (one_line xs bs ys cs _ _ is.1 also.1 e).1)
+apart_by b (Buffers n) (Buffers m) xs bs ys cs kind is also e =
+    let parts = one_line xs bs ys cs _ _ is.0.1 also.0.1 e in
+    (buffers_apart n m is.1 also.1 parts.0, parts.1)
 apart_by b (Desktop c) (Desktop d) xs bs ys cs kind is also e =
     let parts = one_line xs bs ys cs _ _ is.0.1 also.0.1 e in
     (desktops_apart c d is.1 also.1 parts.0, parts.1)

@@ -1,4 +1,5 @@
 pub mod CallerLemmas
+mod CountLaws
 mod StringLaws
 mod ClassHeadLaws
 mod AssetLemmas

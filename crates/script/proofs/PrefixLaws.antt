@@ -20,26 +20,27 @@ use Rattle.bitmap.specs.declared.place.Place.TheVariants as bitmap_place
 use Rattle.bitmap.specs.Faults.{why_at}
 use Rattle.bitmap.specs.Reading as bitmaps
 use Rattle.bitmap.proofs.CallerLemmas as bitmap_laws
-use Rattle.spelling.proofs.CallerLemmas.{on_ok, named, values_again, line_values_again, words_with, no_natural, run_on}
+use Rattle.spelling.proofs.CallerLemmas.{on_ok, named, values_again, line_values_again, words_with, run_on}
 use Rattle.class_lines.specs.declared.line.ClassLine.{ClassLine}
 use Rattle.class_lines.specs.Words.{text_of_class_line, ClassLineFits}
 use Rattle.class_lines.proofs.CallerLemmas.{class_line_spelled, no_comment, no_end}
 use Rattle.calls.specs.declared.line.Line.{Line}
 use Rattle.calls.specs.Words.{line_of, text_of_line, LineFits}
-use Rattle.calls.proofs.CallerLemmas.{line_spelled}
+use Rattle.calls.proofs.CallerLemmas.{line_spelled, no_line}
 use Rattle.script.specs.declared.draft.Block.{Block}
 use Rattle.script.specs.declared.draft.Block.TheVariants as kind
 use Rattle.script.specs.declared.draft.Stage.{Stage}
 use Rattle.script.specs.declared.draft.Stage.TheVariants as stage
 use Rattle.script.specs.declared.fault.Reason.{Reason}
-use Rattle.script.specs.Fields.{screen_in, desktop_in, font_in, bitmap_in}
+use Rattle.script.specs.Fields.{screen_in, buffers_in, desktop_in, font_in, bitmap_in}
 use Rattle.script.specs.Later.{is_one_of, asset_words}
-use Rattle.script.specs.Scripts.{screen_fields, desktop_fields, class_text, string_text, with_string, Item, Title, Screen, Buffers, Desktop, StringOf, ClassOf, CallOf, Before, IsFontBlock, IsBitmapBlock, nothing, after, Spells, class_of, IsClassLine, AreClassLines, plain_class, class_with, may_have, font_fields, font_text, bitmap_fields, bitmap_text, FontOf, BitmapOf, with_font, with_bitmap, may_do, HeadFits, text_of_back}
+use Rattle.script.specs.Counts.{count_alike}
+use Rattle.script.specs.Scripts.{screen_fields, buffers_fields, desktop_fields, class_text, string_text, with_string, Item, Title, Screen, Buffers, Desktop, StringOf, ClassOf, CallOf, Before, IsFontBlock, IsBitmapBlock, nothing, after, Spells, class_of, IsClassLine, AreClassLines, plain_class, class_with, may_have, font_fields, font_text, bitmap_fields, bitmap_text, FontOf, BitmapOf, with_font, with_bitmap, may_do, HeadFits, text_of_back}
 use Rattle.paint_ops.specs.Kinds.{Class}
 use Rattle.paint_ops.specs.Texts.{IsText}
 use Rattle.std.specs.Fmt.{decimal}
 use Rattle.script.specs.Faults.{Place, Between, AreOpen, IsPrefix, OpensClass, OpensDrawing, InClass, InDrawing}
-use Rattle.script.specs.Reading.{Draft, empty_draft, after_title, after_screen, after_buffers, after_desktop, after_block, after_class, after_string, after_asset, after_other, after_call, after_body, after_words, after_line, with_screen, with_colour, opened, before_at, place_at, place_of, block_after, closed, after_font, after_bitmap, takes_comments, with_call}
+use Rattle.script.specs.Reading.{Draft, empty_draft, after_title, after_screen, after_buffers, after_desktop, after_block, after_class, after_string, after_asset, after_other, after_call, after_body, after_words, after_line, with_screen, with_buffers, with_colour, opened, before_at, place_at, place_of, block_after, closed, after_font, after_bitmap, takes_comments, with_call}
 use Rattle.script.proofs.StringLaws.{string_words, string_again}
 use Rattle.script.proofs.ClassHeadLaws.{head_words, head_again}
 use Rattle.script.proofs.ItemLaws.{opens, uncommented}
@@ -80,10 +81,6 @@ title_taken : (d : Draft) → after_title d (codes "mtgui 1") ≡ Ok (record d {
 unfolding after_title
 title_taken d = refl
 
-buffers_taken : (d : Draft) → after_buffers d (codes "buffers 1") ≡ Ok (record d { stage = stage.Desktop })
-unfolding after_buffers
-buffers_taken d = refl
-
 end_taken : (d : Draft) (class : Class) → after_block (kind.Class class) d (codes "end") ≡ Ok (closed d (kind.Class class))
 unfolding block_after
 end_taken d class = refl
@@ -91,6 +88,10 @@ end_taken d class = refl
 screen_taken : (d : Draft) (w h : ℕ) → AreIn screen_fields (w, (h, tt)) → after_screen d (text_with (codes "screen") screen_fields (w, (h, tt))) ≡ Ok (with_screen d w h)
 unfolding after_screen screen_in
 screen_taken d w h are = rw (line_values_again (codes "screen") screen_fields (w, (h, tt)) refl refl are) refl
+
+buffers_taken : (d : Draft) (n : ℕ) → AreIn buffers_fields (n, tt) → after_buffers d (text_with (codes "buffers") buffers_fields (n, tt)) ≡ Ok (with_buffers d n)
+unfolding after_buffers buffers_in
+buffers_taken d n are = rw (line_values_again (codes "buffers") buffers_fields (n, tt) refl refl are) refl
 
 desktop_taken : (d : Draft) (c : ℕ) → AreIn desktop_fields (c, tt) → after_desktop d (text_with (codes "desktop") desktop_fields (c, tt)) ≡ Ok (with_colour d c)
 unfolding after_desktop desktop_in
@@ -140,15 +141,11 @@ text_words d text few is early =
     let none : eqb (length d.said.lines) 0 ≡ true = grind (arith, nat_tests) in
     rw (none, string_again (length d.said.assets.strings) text few is) (numbered_string d text)
 
-no_line : (name : List ℕ) (words : List (List ℕ)) → 57 < get_or name 0 0 → line_of (name ∷ words) ≡ None
-unfolding line_of
-no_line name words other = rw (no_natural 1 16 name words other) refl
-
 -- a line with an asset's word is no call line
-asset_taken : (d e : Draft) (line name : List ℕ) (words : List (List ℕ)) → words_of line ≡ name ∷ words → 57 < get_or name 0 0 → is_one_of asset_words name ≡ true → after_asset d name words ≡ Ok e → after_body d line ≡ Ok e
+asset_taken : (d e : Draft) (line name : List ℕ) (words : List (List ℕ)) → words_of line ≡ name ∷ words → 57 < get_or name 0 0 → bytes_eq name (codes "display") ≡ false → is_one_of asset_words name ≡ true → after_asset d name words ≡ Ok e → after_body d line ≡ Ok e
 unfolding after_body
-asset_taken d e line name words spelled other asset taken =
-    ap (λ (o : Option Line). after_call d line o) (ap line_of spelled ∙ no_line name words other) ∙ ap (after_other d) spelled ∙ rw asset taken
+asset_taken d e line name words spelled other no_tick asset taken =
+    ap (λ (o : Option Line). after_call d line o) (ap line_of spelled ∙ no_line name words other no_tick) ∙ ap (after_other d) spelled ∙ rw asset taken
 
 class_is_asset : is_one_of asset_words (codes "class") ≡ true
 unfolding is_one_of asset_words
@@ -169,27 +166,27 @@ bitmap_is_asset = refl
 class_taken : (d : Draft) (back : Option ℕ) → HeadFits (length d.said.assets.classes) back → length d.said.lines ≡ 0 → after_body d (class_text (length d.said.assets.classes) back) ≡ Ok (opened d (kind.Class (plain_class back)))
 class_taken d back are early =
     let number : ℕ = length d.said.assets.classes in
-    asset_taken d (opened d (kind.Class (plain_class back))) (class_text number back) (codes "class") (decimal number ∷ text_of_back back ∷ []) (head_words number back are) (lit< tt) class_is_asset (class_words d back are early)
+    asset_taken d (opened d (kind.Class (plain_class back))) (class_text number back) (codes "class") (decimal number ∷ text_of_back back ∷ []) (head_words number back are) (lit< tt) refl class_is_asset (class_words d back are early)
 
 font_taken : (d : Draft) (height : ℕ) → AreIn font_fields (length d.said.assets.fonts, (height, tt)) → length d.said.lines ≡ 0 → after_body d (font_text (length d.said.assets.fonts) height) ≡ Ok (opened d (kind.Font (fonts.start height)))
 font_taken d height are early =
     let number : ℕ = length d.said.assets.fonts in
-    asset_taken d (opened d (kind.Font (fonts.start height))) (font_text number height) (codes "font") (texts_of font_fields (number, (height, tt))) (words_with (codes "font") font_fields (number, (height, tt)) refl refl are) (lit< tt) font_is_asset (font_words d height are early)
+    asset_taken d (opened d (kind.Font (fonts.start height))) (font_text number height) (codes "font") (texts_of font_fields (number, (height, tt))) (words_with (codes "font") font_fields (number, (height, tt)) refl refl are) (lit< tt) refl font_is_asset (font_words d height are early)
 
 bitmap_taken : (d : Draft) (width height : ℕ) → AreIn bitmap_fields (length d.said.assets.bitmaps, (width, (height, tt))) → length d.said.lines ≡ 0 → after_body d (bitmap_text (length d.said.assets.bitmaps) width height) ≡ Ok (opened d (kind.Bitmap (bitmaps.start width height)))
 bitmap_taken d width height are early =
     let number : ℕ = length d.said.assets.bitmaps in
-    asset_taken d (opened d (kind.Bitmap (bitmaps.start width height))) (bitmap_text number width height) (codes "bitmap") (texts_of bitmap_fields (number, (width, (height, tt)))) (words_with (codes "bitmap") bitmap_fields (number, (width, (height, tt))) refl refl are) (lit< tt) bitmap_is_asset (bitmap_words d width height are early)
+    asset_taken d (opened d (kind.Bitmap (bitmaps.start width height))) (bitmap_text number width height) (codes "bitmap") (texts_of bitmap_fields (number, (width, (height, tt)))) (words_with (codes "bitmap") bitmap_fields (number, (width, (height, tt))) refl refl are) (lit< tt) refl bitmap_is_asset (bitmap_words d width height are early)
 
 text_taken : (d : Draft) (text : List ℕ) → length d.said.assets.strings ≤ 255 → IsText text → length d.said.lines ≡ 0 → after_body d (string_text (length d.said.assets.strings) text) ≡ Ok (record d { said = with_string d.said text })
 text_taken d text few is early =
     let number : ℕ = length d.said.assets.strings in
-    asset_taken d (record d { said = with_string d.said text }) (string_text number text) (codes "string") (decimal number ∷ words_of text) (string_words number text few) (lit< tt) string_is_asset (text_words d text few is early)
+    asset_taken d (record d { said = with_string d.said text }) (string_text number text) (codes "string") (decimal number ∷ words_of text) (string_words number text few) (lit< tt) refl string_is_asset (text_words d text few is early)
 
-call_taken : (d : Draft) (l : Line) → LineFits l → may_do d.locks l ≡ true → length d.said.lines + 1 ≤ 400000 → after_body d (text_of_line l) ≡ Ok (with_call d l)
+call_taken : (d : Draft) (l : Line) → LineFits l → may_do d.locks l ≡ true → count_alike l d.said.lines + 1 ≤ 400000 → after_body d (text_of_line l) ≡ Ok (with_call d l)
 unfolding after_body
 call_taken d l fits may few =
-    let test : ltb (length d.said.lines) 400000 ≡ true = grind (arith, nat_tests) in
+    let test : ltb (count_alike l d.said.lines) 400000 ≡ true = grind (arith, nat_tests) in
     ap (λ (o : Option Line). after_call d (text_of_line l) o) (line_spelled (text_of_line l) l refl fits) ∙ rw (may, test) refl
 
 -- ---- the stage after what stands before
@@ -403,8 +400,8 @@ item_goes Title d n block at spells printable =
     one_line stage.Title d (record d { stage = stage.Screen }) Title (before_at n d) block (codes "mtgui 1") spells spells.1 printable (at ∙ ap stage_of spells.0) (title_taken d) refl
 item_goes (Screen w h) d n block at spells printable =
     one_line stage.Screen d (with_screen d w h) (Screen w h) (before_at n d) block (text_with (codes "screen") screen_fields (w, (h, tt))) spells spells.0.1 printable (at ∙ ap stage_of spells.0.0) (screen_taken d w h spells.1) refl
-item_goes Buffers d n block at spells printable =
-    one_line stage.Buffers d (record d { stage = stage.Desktop }) Buffers (before_at n d) block (codes "buffers 1") spells spells.1 printable (at ∙ ap stage_of spells.0) (buffers_taken d) refl
+item_goes (Buffers count) d n block at spells printable =
+    one_line stage.Buffers d (with_buffers d count) (Buffers count) (before_at n d) block (text_with (codes "buffers") buffers_fields (count, tt)) spells spells.0.1 printable (at ∙ ap stage_of spells.0.0) (buffers_taken d count spells.1) refl
 item_goes (Desktop c) d n block at spells printable =
     one_line stage.Desktop d (with_colour d c) (Desktop c) (before_at n d) block (text_with (codes "desktop") desktop_fields (c, tt)) spells spells.0.1 printable (at ∙ ap stage_of spells.0.0) (desktop_taken d c spells.1) refl
 item_goes (StringOf text) d n block at spells printable =

@@ -1,10 +1,10 @@
 -- The laws of files: each is one script or has one fault, and not both; and what is read is what the file says.
-use Rattle.std.proofs.Common.{◌≡◌, ℕ, ◌<◌, ◌≤◌, Bool, true, false, cond, leb, List, [], ◌∷◌, ◌++◌, length, take, Option, Some, None, Result, Ok, Err, refl, sym, ap, subst, ◌∙◌, inl, inr, arith}
+use Rattle.std.proofs.Common.{◌≡◌, ℕ, ◌+◌, ◌<◌, ◌≤◌, Bool, true, false, cond, leb, List, [], ◌∷◌, ◌++◌, length, take, Some, None, Result, Ok, Err, refl, sym, ap, subst, ◌∙◌, inl, inr, arith}
 use Rattle.std.specs.Prelude.{IfOk, IfErr, MatchResult}
 use Rattle.std.specs.List.{AllByRecursion}
 use Rattle.std.proofs.lemmas.Bool.{leb-true}
 use Rattle.std.proofs.lemmas.Bool.Decides.{nat_tests}
-use Rattle.std.proofs.lemmas.List.{length-append, length-take, nil_from_length, take_all}
+use Rattle.std.proofs.lemmas.List.{length-append, length-take, take_all}
 use Rattle.paint_ops.specs.Soundness.{IsSound}
 use Rattle.spelling.specs.Parts.{lines_of}
 use Rattle.spelling.specs.Items.{AreItems, all_after}
@@ -13,8 +13,8 @@ use Rattle.spelling.proofs.CallerLemmas as lines
 use Rattle.spelling.proofs.CallerLemmas.{chosen}
 use Rattle.calls.specs.Actors.{is_task}
 use Rattle.calls.specs.declared.line.Line.{Line}
-use Rattle.calls.specs.declared.line.Line.TheVariants.{Task}
-use Rattle.calls.specs.Lines.{FitsItsTask}
+use Rattle.calls.specs.declared.line.Line.TheVariants.{Task, Tick}
+use Rattle.calls.specs.Lines.{FitsItsTask, call_count, tick_count}
 use Rattle.calls.specs.Words.{LineFits}
 use Rattle.script.specs.declared.draft.Block.TheVariants as block
 use Rattle.script.specs.declared.draft.Stage.{Stage}
@@ -24,9 +24,11 @@ use Rattle.script.specs.declared.fault.Reason.TheVariants as reason
 use Rattle.script.specs.declared.fault.ScriptFault.{ScriptFault}
 use Rattle.script.specs.declared.fault.ScriptRefused.{ScriptRefused}
 use Rattle.script.specs.declared.fault.ScriptRefused.TheVariants as read_error
+use Rattle.script.specs.Counts.{count_alike, AreCounted}
 use Rattle.script.specs.Scripts.{Item, Title, Screen, Buffers, Desktop, FontOf, BitmapOf, StringOf, ClassOf, CallOf, Before, nothing, after, after_items, Spells, AreItemsOf, listing_of, plain_class, class_of, Script, script_for, IsScript, IsNoScript, IsReady, are_free}
 use Rattle.script.specs.Faults.{Between, IsPrefix, Why, why_cut, IsFault, IsError}
 use Rattle.script.specs.Reading.{Draft, empty_draft, after_line, place_at, place_of, from_line, read_of, Reads, Says}
+use Rattle.script.proofs.CountLaws.{ticks_more, calls_and_ticks, counted_more}
 use Rattle.script.proofs.AssetLemmas.{class_more, font_more, bitmap_more, string_more}
 use Rattle.script.proofs.BodyLaws.{class_sound}
 use Rattle.script.proofs.ItemLaws.{one_script}
@@ -48,42 +50,55 @@ reading = record {
 record IsGood (b : Before) : Type 0 where
   wide : 2 ≤ b.header → (1 ≤ b.said.width) × (b.said.width ≤ 1024)
   high : 2 ≤ b.header → (1 ≤ b.said.height) × (b.said.height ≤ 768)
+  buffers : 3 ≤ b.header → (1 ≤ b.said.buffers) × (b.said.buffers ≤ 3)
   early : b.header < 4 → length b.said.assets.classes ≡ 0
   some : b.header ≡ 4 → 1 ≤ length b.said.assets.classes
   assets : IsSound b.said.assets
-  few_lines : length b.said.lines ≤ 400000
+  counted : AreCounted b.said.lines (tick_count b.said.lines)
   lines : AllByRecursion LineFits b.said.lines
 
 lines_more : (ls : List Line) (l : Line) → AllByRecursion LineFits ls → LineFits l → AllByRecursion LineFits (ls ++ l ∷ [])
 lines_more [] l all is = (is, tt)
 lines_more (x ∷ ls) l all is = (all.0, lines_more ls l all.1 is)
 
+lines_counted : (ls : List Line) (l : Line) → AreCounted ls (tick_count ls) → count_alike l ls + 1 ≤ 400000 → AreCounted (ls ++ l ∷ []) (tick_count (ls ++ l ∷ []))
+lines_counted ls l are few = subst (AreCounted (ls ++ l ∷ [])) (sym (ticks_more l ls)) (counted_more ls (tick_count ls) l are (omega arith))
+
+few_calls : (ls : List Line) → AreCounted ls (tick_count ls) → call_count ls ≤ 400000
+few_calls ls are = let all = calls_and_ticks ls in let few = are.few_others in omega arith
+
+few_lines : (ls : List Line) → AreCounted ls (tick_count ls) → length ls ≤ 800000
+few_lines ls are = let ticks = are.few_ticks in let few = are.few_others in omega arith
+
 item_good : (item : Item) (b : Before) (block : List (List ℕ)) → Spells b item block → IsGood b → IsGood (after b item)
 item_good Title b block is good = record {
   wide = λ h. absurd (omega arith);
   high = λ h. absurd (omega arith);
+  buffers = λ h. absurd (omega arith);
   early = λ h. good.early (omega (arith, is.0));
   some = λ h. absurd (omega arith);
   assets = good.assets;
-  few_lines = good.few_lines;
+  counted = good.counted;
   lines = good.lines;
 }
 item_good (Screen w h) b block is good = record {
   wide = λ k. is.1.0;
   high = λ k. is.1.1.0;
+  buffers = λ k. absurd (omega arith);
   early = λ k. good.early (omega (arith, is.0.0));
   some = λ k. absurd (omega arith);
   assets = good.assets;
-  few_lines = good.few_lines;
+  counted = good.counted;
   lines = good.lines;
 }
-item_good Buffers b block is good = record {
-  wide = λ h. good.wide (omega (arith, is.0));
-  high = λ h. good.high (omega (arith, is.0));
-  early = λ h. good.early (omega (arith, is.0));
+item_good (Buffers n) b block is good = record {
+  wide = λ h. good.wide (omega (arith, is.0.0));
+  high = λ h. good.high (omega (arith, is.0.0));
+  buffers = λ h. is.1.0;
+  early = λ h. good.early (omega (arith, is.0.0));
   some = λ h. absurd (omega arith);
   assets = good.assets;
-  few_lines = good.few_lines;
+  counted = good.counted;
   lines = good.lines;
 }
 item_good (Desktop c) b block is good =
@@ -92,37 +107,41 @@ item_good (Desktop c) b block is good =
     record {
       wide = λ h. good.wide (omega (arith, is.0.0));
       high = λ h. good.high (omega (arith, is.0.0));
+      buffers = λ h. good.buffers (omega (arith, is.0.0));
       early = λ h. absurd (omega arith);
       some = λ h. omega arith;
       assets = class_more b.said.assets (plain_class (Some c)) good.assets (omega arith) (class_sound b.said.assets (Some c) [] [] tt);
-      few_lines = good.few_lines;
+      counted = good.counted;
       lines = good.lines;
     }
 item_good (StringOf text) b block is good = record {
   wide = good.wide;
   high = good.high;
+  buffers = good.buffers;
   early = good.early;
   some = good.some;
   assets = string_more b.said.assets text good.assets is.counted;
-  few_lines = good.few_lines;
+  counted = good.counted;
   lines = good.lines;
 }
 item_good (FontOf font) b block is good = record {
   wide = good.wide;
   high = good.high;
+  buffers = good.buffers;
   early = good.early;
   some = good.some;
   assets = font_more b.said.assets font good.assets is.counted.0.1;
-  few_lines = good.few_lines;
+  counted = good.counted;
   lines = good.lines;
 }
 item_good (BitmapOf bitmap) b block is good = record {
   wide = good.wide;
   high = good.high;
+  buffers = good.buffers;
   early = good.early;
   some = good.some;
   assets = bitmap_more b.said.assets bitmap good.assets is.counted.0.1;
-  few_lines = good.few_lines;
+  counted = good.counted;
   lines = good.lines;
 }
 item_good (ClassOf back lines) b block is good =
@@ -131,19 +150,21 @@ item_good (ClassOf back lines) b block is good =
     record {
       wide = good.wide;
       high = good.high;
+      buffers = good.buffers;
       early = λ h. absurd (omega (arith, is.early.header));
       some = λ h. omega arith;
       assets = class_more b.said.assets (class_of back lines) good.assets below (class_sound b.said.assets back lines is.body is.are);
-      few_lines = good.few_lines;
+      counted = good.counted;
       lines = good.lines;
     }
 item_good (CallOf line) b block is good = record {
   wide = good.wide;
   high = good.high;
+  buffers = good.buffers;
   early = good.early;
   some = good.some;
   assets = good.assets;
-  few_lines = let few = is.few in let count = length-append b.said.lines (line ∷ []) in omega arith;
+  counted = lines_counted b.said.lines line good.counted is.few;
   lines = lines_more b.said.lines line good.lines is.fits;
 }
 
@@ -155,10 +176,11 @@ nothing_good : IsGood nothing
 nothing_good = record {
   wide = λ h. absurd (omega arith);
   high = λ h. absurd (omega arith);
+  buffers = λ h. absurd (omega arith);
   early = λ h. refl;
   some = λ h. absurd (omega arith);
   assets = record { few_classes = omega arith; few_fonts = omega arith; few_bitmaps = omega arith; few_strings = omega arith; classes = tt };
-  few_lines = omega arith;
+  counted = record { counted = refl; few_ticks = omega arith; few_others = omega arith };
   lines = tt;
 }
 
@@ -167,6 +189,7 @@ task_fits task some few = grind (arith, nat_tests)
 
 line_fits : (line : Line) → LineFits line → FitsItsTask line
 line_fits (Task task a) fits = task_fits task fits.0 fits.1
+line_fits Tick fits = tt
 
 lines_fit : (ls : List Line) → AllByRecursion LineFits ls → AllByRecursion FitsItsTask ls
 lines_fit [] fits = tt
@@ -178,9 +201,11 @@ ready items xs are header =
     record {
       width = good.wide (omega arith);
       height = good.high (omega arith);
-      buffers = refl;
+      buffers = good.buffers (omega arith);
       calls = refl;
-      few_lines = good.few_lines;
+      few_calls = few_calls (listing_of items).lines good.counted;
+      few_ticks = good.counted.few_ticks;
+      few_lines = few_lines (listing_of items).lines good.counted;
       has_desktop = good.some header;
       assets = good.assets;
       lines = lines_fit (listing_of items).lines good.lines;
@@ -299,18 +324,6 @@ pub only_script : (file : List ℕ) (r : Result Script ScriptRefused) (s : Scrip
 only_script file (Ok t) s h is = one_script file t s (found file t h) is
 only_script file (Err read_error.Memory) s h is = refl
 only_script file (Err (read_error.Fault fault)) s h is = absurd (no_script_with_fault file fault (subst (Describes file) h (file_says file)) s is)
-
--- where all lines were read, outside a block and with no open lock, the draft is a script's
-pub whole_ready : (file rest : List ℕ) (n : ℕ) (d : Draft) → length rest ≡ 0 → d.stage ≡ stage.Body → are_free d.locks ≡ true → from_line n d (lines_of rest) ≡ read_of file → length d.said.lines ≤ 400000
-whole_ready file rest n d empty at free read =
-    let none : lines_of rest ≡ [] = ap lines_of (nil_from_length rest empty) in
-    let cut : why_cut (place_of d) ≡ None = ap (λ (s : Stage). why_cut (place_at s d)) at ∙ rw free refl in
-    let all : read_of file ≡ Ok d = sym read ∙ ap (from_line n d) none ∙ ended n d (why_cut (place_of d)) cut in
-    (script_ready file (script_for d.said) (subst (Describes file) all (file_says file))).few_lines
-  where
-    ended : (n : ℕ) (d : Draft) (o : Option Reason) → o ≡ None → Rattle.spelling.specs.LineReading.ended n o d ≡ Ok d
-    ended n d None e = refl
-    ended n d (Some why) e = absurd cc
 
 -- ---- a file and its prefix of one byte more than a script may have say the same
 

@@ -1,7 +1,7 @@
 -- Why a draft doesn't take a line: the first reason that may be held against it.
 use Rattle.std.proofs.Common.{◌≡◌, Result, ℕ, ◌<◌, ◌≤◌, Bool, true, false, cond, ◌&&◌, eqb, ltb, List, [], ◌∷◌, length, get_or, Option, Some, None, Ok, Err, refl, sym, ap, subst, ◌∙◌, inl, inr, arith, lit<}
 use Rattle.std.specs.Prelude.{bytes_eq, codes}
-use Rattle.std.specs.Fmt.{decimal, digits}
+use Rattle.std.specs.Fmt.{decimal}
 use Rattle.std.proofs.lemmas.Bool.{cases_Bool}
 use Rattle.std.proofs.lemmas.Bool.Decides.{nat_tests}
 use Rattle.std.proofs.lemmas.Option.{none-some, same_Some}
@@ -10,13 +10,9 @@ use Rattle.spelling.specs.Words.{words_of, natural_in}
 use Rattle.spelling.specs.Fields.{Values}
 use Rattle.spelling.specs.Items.{is_comment}
 use Rattle.spelling.proofs.CallerLemmas.{chosen, named, no_natural_in, natural_in_again, one_first}
-use Rattle.calls.specs.declared.call.Call.{Call}
-use Rattle.calls.specs.declared.call.Call.TheVariants as call
-use Rattle.calls.specs.declared.line.Act.{Act}
-use Rattle.calls.specs.declared.line.Act.TheVariants as act
 use Rattle.calls.specs.declared.line.Line.{Line}
-use Rattle.calls.specs.declared.line.Line.TheVariants.{Task}
-use Rattle.calls.specs.Words.{name_of_word, line_of, line_words, words_of_call, words_of_act, LineFits}
+use Rattle.calls.specs.declared.line.Line.TheVariants.{Task, Tick}
+use Rattle.calls.specs.Words.{line_of, line_words, LineFits}
 use Rattle.calls.proofs.CallerLemmas.{line_words_whole, line_read, line_spelled}
 use Rattle.glyph_font.specs.Reading as fonts
 use Rattle.bitmap.specs.Reading as bitmaps
@@ -27,11 +23,12 @@ use Rattle.script.specs.declared.draft.Stage.TheVariants as stage
 use Rattle.script.specs.declared.fault.Reason.{Reason}
 use Rattle.script.specs.declared.fault.Reason.TheVariants as reason
 use Rattle.script.specs.Fields.{class_in, font_in, bitmap_in, string_in}
-use Rattle.script.specs.Later.{is_one_of, begins_with_one_of, asset_words, later_words, later_calls, is_later_call}
+use Rattle.script.specs.Counts.{count_alike}
+use Rattle.script.specs.Later.{is_one_of, begins_with_one_of, asset_words, later_words}
 use Rattle.script.specs.Scripts.{Before, font_fields, bitmap_fields, plain_class, with_string, may_do}
-use Rattle.script.specs.Faults.{Place, Between, is_later, is_later_in_header, is_later_elsewhere, IsCallLine, IsBarred, opens_asset, Holds, rank, Why, InClass, InDrawing}
-use Rattle.script.specs.Reading.{Draft, after_value, after_title, after_screen, after_buffers, after_desktop, after_block, after_class, after_string, after_early, after_asset, after_other, after_call, after_body, after_words, after_line, with_screen, with_colour, after_font, after_bitmap, gone_on, block_after, takes_comments, opened, before_at, place_at, place_of, header_reason, call_reason, closed, with_call, drawing_reason}
-use Rattle.script.specs.Fields.{screen_in, desktop_in}
+use Rattle.script.specs.Faults.{Place, Between, is_later, is_later_form, IsCallLine, IsBarred, opens_asset, Holds, rank, Why, InClass, InDrawing}
+use Rattle.script.specs.Reading.{Draft, after_value, after_title, after_screen, after_buffers, after_desktop, after_block, after_class, after_string, after_early, after_asset, after_other, after_call, after_body, after_words, after_line, with_screen, with_buffers, with_colour, after_font, after_bitmap, gone_on, block_after, takes_comments, opened, before_at, place_at, place_of, call_reason, closed, with_call, drawing_reason}
+use Rattle.script.specs.Fields.{screen_in, buffers_in, desktop_in}
 use Rattle.script.proofs.BlockLaws.{reason_in, block_reason}
 use Rattle.script.proofs.DraftLaws.{at_odds, asset_word}
 
@@ -46,50 +43,36 @@ not_named n name some few first =
 
 task_is_built : (n : ℕ) → 1 ≤ n → n ≤ 16 → is_one_of later_words (decimal n) ≡ false
 unfolding is_one_of later_words
-task_is_built n some few =
-    rw (not_named n (codes "display") some few (lit< tt), not_named n (codes "viewer") some few (lit< tt), not_named n (codes "done") some few (lit< tt)) refl
-
--- no word of the table is among those that aren't built
-call_is_built : (c : Call) → is_later_call (words_of_call c) ≡ false
-unfolding is_one_of later_calls name_of_word digits
-call_is_built call.Exec = refl
-call_is_built c = refl
-
-act_is_built : (a : Act) → is_later_call (words_of_act a) ≡ false
-unfolding is_one_of later_calls
-act_is_built act.Lock = refl
-act_is_built act.Unlock = refl
-act_is_built (act.Call c) = call_is_built c
+task_is_built n some few = rw (not_named n (codes "viewer") some few (lit< tt), not_named n (codes "done") some few (lit< tt)) refl
 
 task_is_no_asset : (task : ℕ) → 1 ≤ task → task ≤ 16 → is_one_of asset_words (decimal task) ≡ false
 unfolding is_one_of asset_words
 task_is_no_asset task some few = rw (not_named task (codes "string") some few (lit< tt), not_named task (codes "class") some few (lit< tt), not_named task (codes "font") some few (lit< tt), not_named task (codes "bitmap") some few (lit< tt)) refl
 
-words_are_built : (l : Line) → LineFits l → is_later_elsewhere (line_words l) ≡ false
-words_are_built (Task task a) fits =
-    rw (task_is_built task fits.0 fits.1, natural_in_again 1 16 task fits.0 fits.1 (lit< tt), act_is_built a) refl
+words_are_built : (l : Line) → LineFits l → begins_with_one_of later_words (line_words l) ≡ false
+unfolding is_one_of later_words
+words_are_built (Task task a) fits = task_is_built task fits.0 fits.1
+words_are_built Tick fits = refl
 
 words_open_no_asset : (l : Line) → LineFits l → begins_with_one_of asset_words (line_words l) ≡ false
+unfolding is_one_of asset_words
 words_open_no_asset (Task task a) fits = task_is_no_asset task fits.0 fits.1
+words_open_no_asset Tick fits = refl
 
 -- a call line is of a built form, and opens no asset
-line_is_built : (text : List ℕ) (l : Line) → line_of (words_of text) ≡ Some l → is_later_elsewhere (words_of text) ≡ false
+line_is_built : (text : List ℕ) (l : Line) → line_of (words_of text) ≡ Some l → is_later_form text ≡ false
 line_is_built text l read =
     let t = line_read text l read in
-    ap (λ (x : List ℕ). is_later_elsewhere (words_of x)) t.0 ∙ ap is_later_elsewhere (line_words_whole l t.1) ∙ words_are_built l t.1
+    ap is_later_form t.0 ∙ ap (begins_with_one_of later_words) (line_words_whole l t.1) ∙ words_are_built l t.1
 
 line_opens_no_asset : (text : List ℕ) (l : Line) → line_of (words_of text) ≡ Some l → opens_asset text ≡ false
 line_opens_no_asset text l read =
     let t = line_read text l read in
-    ap (λ (x : List ℕ). begins_with_one_of asset_words (words_of x)) t.0 ∙ ap (begins_with_one_of asset_words) (line_words_whole l t.1) ∙ words_open_no_asset l t.1
+    ap opens_asset t.0 ∙ ap (begins_with_one_of asset_words) (line_words_whole l t.1) ∙ words_open_no_asset l t.1
 
 class_word_is_built : is_one_of later_words (codes "class") ≡ false
 unfolding is_one_of later_words
 class_word_is_built = refl
-
--- a word that no task and no form that isn't built begins with
-word_built : (name : List ℕ) (fields : List (List ℕ)) → is_one_of later_words name ≡ false → natural_in 1 16 name ≡ None → is_later_elsewhere (name ∷ fields) ≡ false
-word_built name fields built task = rw (built, task) refl
 
 string_word_is_built : is_one_of later_words (codes "string") ≡ false
 unfolding is_one_of later_words
@@ -103,15 +86,15 @@ bitmap_word_is_built : is_one_of later_words (codes "bitmap") ≡ false
 unfolding is_one_of later_words
 bitmap_word_is_built = refl
 
--- an asset's words are of a built form
-asset_built : (first : List ℕ) (words : List (List ℕ)) → is_one_of asset_words first ≡ true → is_later_elsewhere (first ∷ words) ≡ false
-asset_built first words asset =
-    let as_word : (name : List ℕ) → name ≡ first → is_one_of later_words name ≡ false → natural_in 1 16 name ≡ None → is_later_elsewhere (first ∷ words) ≡ false = λ name same built task. ap (λ (w : List ℕ). is_later_elsewhere (w ∷ words)) (sym same) ∙ word_built name words built task in
+-- an asset's word is of a built form
+asset_built : (first : List ℕ) → is_one_of asset_words first ≡ true → is_one_of later_words first ≡ false
+asset_built first asset =
+    let as_word : (name : List ℕ) → name ≡ first → is_one_of later_words name ≡ false → is_one_of later_words first ≡ false = λ name same built. ap (is_one_of later_words) (sym same) ∙ built in
     elim (asset_word first asset) [
-      | inl string ↦ as_word (codes "string") string string_word_is_built (no_natural_in 1 16 (codes "string") (lit< tt))
-      | inr (inl class) ↦ as_word (codes "class") class class_word_is_built (no_natural_in 1 16 (codes "class") (lit< tt))
-      | inr (inr (inl font)) ↦ as_word (codes "font") font font_word_is_built (no_natural_in 1 16 (codes "font") (lit< tt))
-      | inr (inr (inr bitmap)) ↦ as_word (codes "bitmap") bitmap bitmap_word_is_built (no_natural_in 1 16 (codes "bitmap") (lit< tt))
+      | inl string ↦ as_word (codes "string") string string_word_is_built
+      | inr (inl class) ↦ as_word (codes "class") class class_word_is_built
+      | inr (inr (inl font)) ↦ as_word (codes "font") font font_word_is_built
+      | inr (inr (inr bitmap)) ↦ as_word (codes "bitmap") bitmap bitmap_word_is_built
     ]
 
 -- ---- the first reason at each place
@@ -152,12 +135,12 @@ class_first line printable = (tt, earlier) where
   earlier reason.Header less h = h
   earlier e less h = absurd (omega arith)
 
-drawing_first : (line : List ℕ) → is_printable line ≡ true → is_later_elsewhere (words_of line) ≡ false → Why InDrawing line reason.Block
+drawing_first : (line : List ℕ) → is_printable line ≡ true → is_later_form line ≡ false → Why InDrawing line reason.Block
 drawing_first line printable built = (tt, earlier) where
   earlier : (e : Reason) → rank e < 4 → Holds InDrawing line e → ⊥
   earlier reason.TooLarge less h = h
   earlier reason.Ascii less h = at_odds (is_printable line) printable h
-  earlier reason.Later less h = at_odds (is_later_elsewhere (words_of line)) h built
+  earlier reason.Later less h = at_odds (is_later_form line) h built
   earlier reason.Header less h = h
   earlier e less h = absurd (omega arith)
 
@@ -247,33 +230,32 @@ by_test place line false x y is other = other refl
 
 drawing_why : (line : List ℕ) → is_printable line ≡ true → Why InDrawing line (drawing_reason line)
 drawing_why line printable =
-    by_test InDrawing line (is_later_elsewhere (words_of line)) reason.Later reason.Block (λ later. later_first InDrawing line printable later) (λ built. drawing_first line printable built)
+    by_test InDrawing line (is_later_form line) reason.Later reason.Block (λ later. later_first InDrawing line printable later) (λ built. drawing_first line printable built)
 
-header_why : (b : Before) (line : List ℕ) → is_printable line ≡ true → b.header < 4 → Why (Between b) line (header_reason line)
+header_why : (b : Before) (line : List ℕ) → is_printable line ≡ true → b.header < 4 → Why (Between b) line reason.Header
 header_why b line printable header =
-    let test : ltb b.header 4 ≡ true = grind (arith, nat_tests) in
-    let same : is_later (Between b) line ≡ is_later_in_header line = rw test refl in
-    by_test (Between b) line (is_later_in_header line) reason.Later reason.Header (λ later. later_first (Between b) line printable (same ∙ later)) (λ built. header_first b line printable (same ∙ built) header)
+    let early : eqb b.header 4 ≡ false = grind (arith, nat_tests) in
+    header_first b line printable (rw early refl) header
 
 title_why : (d : Draft) (line : List ℕ) (why : Reason) → is_printable line ≡ true → after_title d line ≡ Err why → Why (Between (before_at 0 d)) line why
 unfolding after_title
 title_why d line why printable is =
-    subst (Why (Between (before_at 0 d)) line) (refused (bytes_eq line (codes "mtgui 1")) (record d { stage = stage.Screen }) (header_reason line) why is).1 (header_why (before_at 0 d) line printable (lit< tt))
+    subst (Why (Between (before_at 0 d)) line) (refused (bytes_eq line (codes "mtgui 1")) (record d { stage = stage.Screen }) reason.Header why is).1 (header_why (before_at 0 d) line printable (lit< tt))
 
 screen_why : (d : Draft) (line : List ℕ) (why : Reason) → is_printable line ≡ true → after_screen d line ≡ Err why → Why (Between (before_at 1 d)) line why
 unfolding after_screen
 screen_why d line why printable is =
-    subst (Why (Between (before_at 1 d)) line) (valueless (screen_in (words_of line)) (header_reason line) (λ sides. with_screen d sides.0 sides.1.0) why is) (header_why (before_at 1 d) line printable (lit< tt))
+    subst (Why (Between (before_at 1 d)) line) (valueless (screen_in (words_of line)) reason.Header (λ sides. with_screen d sides.0 sides.1.0) why is) (header_why (before_at 1 d) line printable (lit< tt))
 
 buffers_why : (d : Draft) (line : List ℕ) (why : Reason) → is_printable line ≡ true → after_buffers d line ≡ Err why → Why (Between (before_at 2 d)) line why
 unfolding after_buffers
 buffers_why d line why printable is =
-    subst (Why (Between (before_at 2 d)) line) (refused (bytes_eq line (codes "buffers 1")) (record d { stage = stage.Desktop }) (header_reason line) why is).1 (header_why (before_at 2 d) line printable (lit< tt))
+    subst (Why (Between (before_at 2 d)) line) (valueless (buffers_in (words_of line)) reason.Header (λ number. with_buffers d number.0) why is) (header_why (before_at 2 d) line printable (lit< tt))
 
 desktop_why : (d : Draft) (line : List ℕ) (why : Reason) → is_printable line ≡ true → after_desktop d line ≡ Err why → Why (Between (before_at 3 d)) line why
 unfolding after_desktop
 desktop_why d line why printable is =
-    subst (Why (Between (before_at 3 d)) line) (valueless (desktop_in (words_of line)) (header_reason line) (λ colour. with_colour d colour.0) why is) (header_why (before_at 3 d) line printable (lit< tt))
+    subst (Why (Between (before_at 3 d)) line) (valueless (desktop_in (words_of line)) reason.Header (λ colour. with_colour d colour.0) why is) (header_why (before_at 3 d) line printable (lit< tt))
 
 gone_why : (d : Draft) (r : Result (Block × Bool) Reason) (why : Reason) → gone_on d r ≡ Err why → r ≡ Err why
 gone_why d (Ok x) why is = absurd cc
@@ -326,7 +308,7 @@ unfolding after_asset
 asset_why d line first words why printable spelled asset is =
     let b : Before = before_at 4 d in
     let opens : opens_asset line ≡ true = ap (begins_with_one_of asset_words) spelled ∙ asset in
-    let form : is_later (Between b) line ≡ false = ap is_later_elsewhere spelled ∙ asset_built first words asset in
+    let form : is_later (Between b) line ≡ false = ap (begins_with_one_of later_words) spelled ∙ asset_built first asset in
     elim (chosen (eqb (length d.said.lines) 0) (after_early d first words) (Err reason.Late) (Err why) is) [
       | inl early ↦ subst (Why (Between b) line) (early_why d first words why early.1) (asset_first b line printable form refl opens (grind (arith, nat_tests, early.0)))
       | inr late ↦
@@ -342,16 +324,16 @@ other_why : (d : Draft) (line : List ℕ) (words : List (List ℕ)) (why : Reaso
 other_why d line [] why printable none spelled is =
     let b : Before = before_at 4 d in
     let same : reason.Call ≡ why = cc in
-    subst (Why (Between b) line) same (call_first b line printable (ap is_later_elsewhere spelled) refl (ap (begins_with_one_of asset_words) spelled) (no_call line none))
+    subst (Why (Between b) line) same (call_first b line printable (ap (begins_with_one_of later_words) spelled) refl (ap (begins_with_one_of asset_words) spelled) (no_call line none))
 other_why d line (first ∷ words) why printable none spelled is =
     let b : Before = before_at 4 d in
-    elim (chosen (is_one_of asset_words first) (after_asset d first words) (Err (call_reason first words)) (Err why) is) [
+    elim (chosen (is_one_of asset_words first) (after_asset d first words) (Err (call_reason first)) (Err why) is) [
       | inl asset ↦ asset_why d line first words why printable spelled asset.0 asset.1
       | inr closed ↦
-          let same : call_reason first words ≡ why = cc (closed.1) in
-          let form : is_later (Between b) line ≡ is_later_elsewhere (first ∷ words) = ap is_later_elsewhere spelled in
+          let same : call_reason first ≡ why = cc (closed.1) in
+          let form : is_later (Between b) line ≡ is_one_of later_words first = ap (begins_with_one_of later_words) spelled in
           subst (Why (Between b) line) same
-          (by_test (Between b) line (is_later_elsewhere (first ∷ words)) reason.Later reason.Call (λ later. later_first (Between b) line printable (form ∙ later)) (λ built. call_first b line printable (form ∙ built) refl (ap (begins_with_one_of asset_words) spelled ∙ closed.0) (no_call line none)))
+          (by_test (Between b) line (is_one_of later_words first) reason.Later reason.Call (λ later. later_first (Between b) line printable (form ∙ later)) (λ built. call_first b line printable (form ∙ built) refl (ap (begins_with_one_of asset_words) spelled ∙ closed.0) (no_call line none)))
     ]
 
 -- the locks allow a line by what it says
@@ -367,9 +349,9 @@ body_why d line (Some l) why printable read is =
     let t = line_read line l read in
     let built = line_is_built line l read in
     let no_asset = line_opens_no_asset line l read in
-    elim (chosen (may_do d.locks l) (cond (ltb (length d.said.lines) 400000) (Ok (with_call d l)) (Err reason.Many)) (Err reason.Lock) (Err why) is) [
+    elim (chosen (may_do d.locks l) (cond (ltb (count_alike l d.said.lines) 400000) (Ok (with_call d l)) (Err reason.Many)) (Err reason.Lock) (Err why) is) [
       | inl may ↦
-          subst (Why (Between b) line) (refused (ltb (length d.said.lines) 400000) (with_call d l) reason.Many why may.1).1
+          subst (Why (Between b) line) (refused (ltb (count_alike l d.said.lines) 400000) (with_call d l) reason.Many why may.1).1
           (many_first b line printable built refl no_asset (l, t.1, t.0) (not_barred d.locks line l read may.0))
       | inr barred ↦
           let same : reason.Lock ≡ why = cc (barred.1) in

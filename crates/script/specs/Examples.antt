@@ -1,4 +1,4 @@
--- A small script, and the lines of its file.
+-- Two small scripts, and the lines of their files.
 use Rattle.std.specs.Prelude.{ℕ, pos, List, [], ◌∷◌, ◌++◌, Some, codes}
 use Rattle.gfx_base.specs.declared.num.Base.TheVariants.{Zero}
 use Rattle.gfx_base.specs.declared.num.Num.{Num}
@@ -9,11 +9,11 @@ use Rattle.paint_ops.specs.Kinds.{Class, Assets}
 use Rattle.class_lines.specs.declared.line.ClassLine.{ClassLine}
 use Rattle.class_lines.specs.declared.line.ClassLine.TheVariants.{Operation}
 use Rattle.calls.specs.declared.call.Call.{Call}
-use Rattle.calls.specs.declared.call.Call.TheVariants.{Create, Exec}
+use Rattle.calls.specs.declared.call.Call.TheVariants.{Create, Begin, End, Exec}
 use Rattle.calls.specs.declared.line.Act.TheVariants as act
 use Rattle.calls.specs.declared.line.Line.{Line}
-use Rattle.calls.specs.declared.line.Line.TheVariants.{Task}
-use Rattle.script.specs.Scripts.{Item, Title, Screen, Buffers, Desktop, FontOf, BitmapOf, StringOf, ClassOf, CallOf, Listing, plain_class}
+use Rattle.calls.specs.declared.line.Line.TheVariants.{Task, Tick}
+use Rattle.script.specs.Scripts.{Item, Title, Screen, Buffers, Desktop, FontOf, BitmapOf, StringOf, ClassOf, CallOf, Listing, no_assets, plain_class}
 
 -- a call of task 1
 abbrev pub by_task_1 : Call → Line
@@ -51,6 +51,7 @@ abbrev pub small_listing : Listing
 small_listing = record {
   width = 2;
   height = 1;
+  buffers = 1;
   desktop = 0;
   assets = small_assets;
   lines = small_call_lines;
@@ -59,7 +60,7 @@ small_listing = record {
 -- the items that say so
 abbrev pub small_items : List Item
 small_items =
-    Title ∷ Screen 2 1 ∷ Buffers ∷ Desktop 0 ∷ FontOf single ∷ BitmapOf dotted
+    Title ∷ Screen 2 1 ∷ Buffers 1 ∷ Desktop 0 ∷ FontOf single ∷ BitmapOf dotted
     ∷ StringOf (codes "A A") ∷ ClassOf (Some 255) (greeting ∷ [])
     ∷ CallOf (by_task_1 (Create 1 (pos 0) (pos 0) 0 1 1))
     ∷ CallOf (by_task_1 (Create 1 (pos 0) (pos 0) 1 1 7)) ∷ CallOf (Task 2 act.Lock)
@@ -84,3 +85,32 @@ abbrev pub small_lines : List (List ℕ)
 small_lines =
     codes "mtgui 1" ∷ codes "# a small screen" ∷ codes "screen 2 1" ∷ codes "buffers 1"
     ∷ codes "desktop 000000" ∷ assets_text
+
+-- ---- a script of two buffers without assets
+
+-- the display shows what task 1 drew, which holds the lock meanwhile
+abbrev pub tick_call_lines : List Line
+tick_call_lines =
+    Task 1 act.Lock ∷ by_task_1 Begin ∷ by_task_1 End ∷ Tick ∷ Task 1 act.Unlock ∷ []
+
+abbrev pub tick_listing : Listing
+tick_listing = record {
+  width = 2;
+  height = 1;
+  buffers = 2;
+  desktop = 0;
+  assets = record no_assets { classes = plain_class (Some 0) ∷ [] };
+  lines = tick_call_lines;
+}
+
+abbrev pub tick_items : List Item
+tick_items =
+    Title ∷ Screen 2 1 ∷ Buffers 2 ∷ Desktop 0 ∷ CallOf (Task 1 act.Lock)
+    ∷ CallOf (by_task_1 Begin) ∷ CallOf (by_task_1 End) ∷ CallOf Tick
+    ∷ CallOf (Task 1 act.Unlock) ∷ []
+
+abbrev pub tick_lines : List (List ℕ)
+tick_lines =
+    codes "mtgui 1" ∷ codes "screen 2 1" ∷ codes "buffers 2" ∷ codes "desktop 000000"
+    ∷ codes "1 lock" ∷ codes "1 begin" ∷ codes "1 end" ∷ codes "display tick" ∷ codes "1 unlock"
+    ∷ []

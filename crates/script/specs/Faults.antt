@@ -1,8 +1,8 @@
 -- The first fault of a file, by the items before it. No function that reads stands in it.
-use Rattle.std.specs.Prelude.{◌≡◌, ◌⊎◌, ℕ, ◌<◌, ◌≤◌, Bool, true, false, ◌&&◌, ◌||◌, List, [], ◌∷◌, ◌++◌, length, Option, Some, None, is_some, nat_lt, ◌==◌, if◌then◌else◌, bytes_eq, codes}
+use Rattle.std.specs.Prelude.{◌≡◌, ◌⊎◌, ℕ, ◌<◌, ◌≤◌, Bool, true, false, ◌&&◌, List, ◌∷◌, ◌++◌, length, Option, Some, None, ◌==◌, if◌then◌else◌}
 use Rattle.std.specs.List.{AllByRecursion}
 use Rattle.spelling.specs.Parts.{lines_of, is_printable}
-use Rattle.spelling.specs.Words.{words_of, natural_in}
+use Rattle.spelling.specs.Words.{words_of}
 use Rattle.spelling.specs.Fields.{AreIn}
 use Rattle.spelling.specs.FirstFaults.{IsFirst, IsFirstFault}
 use Rattle.glyph_font.specs.declared.place.Place.{Place as FontPlace}
@@ -19,7 +19,7 @@ use Rattle.script.specs.declared.fault.Reason.TheVariants as reason
 use Rattle.script.specs.declared.fault.ScriptFault.{ScriptFault}
 use Rattle.script.specs.declared.fault.ScriptRefused.{ScriptRefused}
 use Rattle.script.specs.declared.fault.ScriptRefused.TheVariants as read_error
-use Rattle.script.specs.Later.{is_one_of, begins_with_one_of, asset_words, later_words, is_later_call}
+use Rattle.script.specs.Later.{begins_with_one_of, asset_words, later_words}
 use Rattle.script.specs.Scripts.{Item, Before, IsEarly, AreClassLines, class_text, font_fields, font_text, bitmap_fields, bitmap_text, may_do, are_free, after_items, AreItemsOf, HeadFits}
 
 -- ---- where a line stands
@@ -91,19 +91,15 @@ IsPrefix lines place =
 
 -- ---- forms that aren't built
 
-abbrev pub is_later_in_header : List ℕ → Bool
-is_later_in_header line = bytes_eq line (codes "buffers 2") || bytes_eq line (codes "buffers 3")
+-- the first word is that of such a form
+abbrev pub is_later_form : List ℕ → Bool
+is_later_form line = begins_with_one_of later_words (words_of line)
 
-abbrev pub is_later_elsewhere : List (List ℕ) → Bool
-is_later_elsewhere [] = false
-is_later_elsewhere (first ∷ words) =
-    is_one_of later_words first || (is_some (natural_in 1 16 first) && is_later_call words)
-
+-- lines of the header and of classes are never of such forms
 abbrev pub is_later : Place → List ℕ → Bool
-is_later (Between b) line =
-    if nat_lt b.header 4 then is_later_in_header line else is_later_elsewhere (words_of line)
+is_later (Between b) line = b.header == 4 && is_later_form line
 is_later InClass line = false
-is_later InDrawing line = is_later_elsewhere (words_of line)
+is_later InDrawing line = is_later_form line
 
 -- ---- reasons
 

@@ -4,12 +4,16 @@ use Rattle.spelling.specs.Parts.{is_printable}
 use Rattle.spelling.specs.Words.{◌>>=◌, natural_at, colour_of, text_of_words}
 use Rattle.spelling.specs.Fields.{Values, values_of, line_values}
 use Rattle.calls.specs.declared.line.Line.{Line}
-use Rattle.calls.specs.declared.line.Line.TheVariants.{Task}
-use Rattle.script.specs.Scripts.{screen_fields, desktop_fields, font_fields, bitmap_fields}
+use Rattle.calls.specs.declared.line.Line.TheVariants.{Task, Tick}
+use Rattle.script.specs.Scripts.{screen_fields, buffers_fields, desktop_fields, font_fields, bitmap_fields}
 
 -- the sides in the words of `screen W H`
 unfoldable pub screen_in : List (List ℕ) → Option (Values screen_fields)
 screen_in words = line_values (codes "screen") screen_fields words
+
+-- the number in the words of `buffers N`
+unfoldable pub buffers_in : List (List ℕ) → Option (Values buffers_fields)
+buffers_in words = line_values (codes "buffers") buffers_fields words
 
 -- the colour in the words of `desktop COLOUR`
 unfoldable pub desktop_in : List (List ℕ) → Option (Values desktop_fields)
@@ -56,6 +60,7 @@ string_in words = do
   text ← text_in number.1
   Some (number.0, text)
 
--- the line's task is one from 1 to 16
+-- the line's task is one from 1 to 16, if it has one
 abbrev pub IsTasks : Line → Type 0
 IsTasks (Task task a) = (1 ≤ task) × (task ≤ 16)
+IsTasks Tick = Unit {0}

@@ -1,4 +1,4 @@
--- The words that decide what form a line is of, and which forms aren't built yet.
+-- The first words that decide what form a line is of, and which forms aren't built yet.
 use Rattle.std.specs.Prelude.{ℕ, Bool, false, List, [], ◌∷◌, bytes_eq, codes}
 use Rattle.std.specs.List.{list_any}
 use Rattle.spelling.specs.Words.{words_of}
@@ -16,14 +16,6 @@ begins_with_one_of names (word ∷ words) = is_one_of names word
 unfoldable pub asset_words : List ℕ
 asset_words = codes "string class font bitmap"
 
--- first words outside blocks
+-- first words, after the header and outside classes, of forms that aren't built
 unfoldable pub later_words : List ℕ
-later_words = codes "display viewer done"
-
--- second words, after a task
-unfoldable pub later_calls : List ℕ
-later_calls = codes "begin end"
-
--- the words after a task are of a call that isn't built
-abbrev pub is_later_call : List (List ℕ) → Bool
-is_later_call words = begins_with_one_of later_calls words
+later_words = codes "viewer done"

@@ -1,5 +1,5 @@
 -- Reading a file line by line: what its items say, or its first fault.
-use Rattle.std.specs.Prelude.{◌≡◌, ℕ, Bool, true, false, ◌&&◌, ◌||◌, List, [], ◌∷◌, length, Option, Some, None, Result, Ok, Err, nat_lt, nat_le, ◌==◌, if◌then◌else◌, bytes_eq, codes}
+use Rattle.std.specs.Prelude.{◌≡◌, ℕ, Bool, true, false, ◌&&◌, List, [], ◌∷◌, length, Option, Some, None, Result, Ok, Err, nat_lt, nat_le, ◌==◌, if◌then◌else◌, bytes_eq, codes}
 use Rattle.glyph_font.specs.declared.place.Place.TheVariants as font_place
 use Rattle.bitmap.specs.declared.place.Place.TheVariants as bitmap_place
 use Rattle.glyph_font.specs.Reading as fonts
@@ -26,25 +26,21 @@ use Rattle.script.specs.declared.fault.LineError.{LineError}
 use Rattle.script.specs.declared.fault.LineError.TheVariants as line_error
 use Rattle.script.specs.declared.fault.ScriptRefused.{ScriptRefused}
 use Rattle.script.specs.declared.fault.ScriptRefused.TheVariants as read_error
-use Rattle.script.specs.Fields.{screen_in, desktop_in, class_in, font_in, bitmap_in, string_in}
-use Rattle.script.specs.Later.{is_one_of, asset_words}
+use Rattle.script.specs.Fields.{screen_in, buffers_in, desktop_in, class_in, font_in, bitmap_in, string_in}
+use Rattle.script.specs.Counts.{count_alike}
+use Rattle.script.specs.Later.{is_one_of, asset_words, later_words}
 use Rattle.script.specs.Scripts.{Before, Listing, Script, font_fields, bitmap_fields, empty_listing, plain_class, with_class, with_font, with_bitmap, with_string, with_line, with_desktop, class_with, may_have, may_do, locks_with, no_locks, script_for}
-use Rattle.script.specs.Faults.{Place, Between, InClass, InDrawing, is_later_elsewhere, why_cut}
+use Rattle.script.specs.Faults.{Place, Between, InClass, InDrawing, is_later_form, why_cut}
 
 -- ---- reasons against a line
 
--- against a line that isn't the header's line of its place
-abbrev pub header_reason : List ℕ → Reason
-header_reason line =
-    if bytes_eq line (codes "buffers 2") || bytes_eq line (codes "buffers 3") then Later else Header
-
 -- against a line with this first word that is no asset's and no call
-abbrev pub call_reason : List ℕ → List (List ℕ) → Reason
-call_reason first words = if is_later_elsewhere (first ∷ words) then Later else Call
+abbrev pub call_reason : List ℕ → Reason
+call_reason first = if is_one_of later_words first then Later else Call
 
 -- against a line in a font or a bitmap that doesn't go on with it
 abbrev pub drawing_reason : List ℕ → Reason
-drawing_reason line = if is_later_elsewhere (words_of line) then Later else reason.Block
+drawing_reason line = if is_later_form line then Later else reason.Block
 
 -- ---- lines
 
@@ -66,8 +62,7 @@ after_value (Some x) reason next = Ok (next x)
 -- after `mtgui 1`
 unfoldable pub after_title : Draft → List ℕ → Result Draft Reason
 after_title d line =
-    if bytes_eq line (codes "mtgui 1") then Ok (record d { stage = stage.Screen })
-    else Err (header_reason line)
+    if bytes_eq line (codes "mtgui 1") then Ok (record d { stage = stage.Screen }) else Err Header
 
 abbrev pub with_screen : Draft → ℕ → ℕ → Draft
 with_screen d w h =
@@ -76,14 +71,15 @@ with_screen d w h =
 -- after `screen W H`
 unfoldable pub after_screen : Draft → List ℕ → Result Draft Reason
 after_screen d line =
-    after_value (screen_in (words_of line)) (header_reason line)
-    (λ sides. with_screen d sides.0 sides.1.0)
+    after_value (screen_in (words_of line)) Header (λ sides. with_screen d sides.0 sides.1.0)
 
--- after `buffers 1`
+abbrev pub with_buffers : Draft → ℕ → Draft
+with_buffers d n = record d { stage = stage.Desktop; said = record d.said { buffers = n } }
+
+-- after `buffers N`
 unfoldable pub after_buffers : Draft → List ℕ → Result Draft Reason
 after_buffers d line =
-    if bytes_eq line (codes "buffers 1") then Ok (record d { stage = stage.Desktop })
-    else Err (header_reason line)
+    after_value (buffers_in (words_of line)) Header (λ number. with_buffers d number.0)
 
 abbrev pub with_colour : Draft → ℕ → Draft
 with_colour d colour = record d { stage = stage.Body; said = with_desktop d.said colour }
@@ -91,8 +87,7 @@ with_colour d colour = record d { stage = stage.Body; said = with_desktop d.said
 -- after `desktop COLOUR`, whose colour is class 0's
 unfoldable pub after_desktop : Draft → List ℕ → Result Draft Reason
 after_desktop d line =
-    after_value (desktop_in (words_of line)) (header_reason line)
-    (λ colour. with_colour d colour.0)
+    after_value (desktop_in (words_of line)) Header (λ colour. with_colour d colour.0)
 
 -- ---- blocks
 
@@ -190,7 +185,7 @@ abbrev pub after_other : Draft → List (List ℕ) → Result Draft Reason
 after_other d [] = Err Call
 after_other d (first ∷ words) =
     if is_one_of asset_words first then after_asset d first words
-    else Err (call_reason first words)
+    else Err (call_reason first)
 
 -- with a call line more
 abbrev pub with_call : Draft → Line → Draft
@@ -201,7 +196,7 @@ with_call d line =
 abbrev pub after_call_line : Draft → Line → Result Draft Reason
 after_call_line d line =
     if may_do d.locks line
-    then (if nat_lt (length d.said.lines) 400000 then Ok (with_call d line) else Err Many)
+    then (if nat_lt (count_alike line d.said.lines) 400000 then Ok (with_call d line) else Err Many)
     else Err Lock
 
 -- after a line by the call line that it spells
@@ -275,9 +270,10 @@ draft_of d =
       said = record {
         width = d.width;
         height = d.height;
+        buffers = d.buffers;
         desktop = d.desktop;
         assets = d.assets;
-        lines = d.lines.items;
+        lines = d.lines;
       };
       locks = d.locks;
     }

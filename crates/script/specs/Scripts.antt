@@ -17,19 +17,23 @@ use Rattle.calls.specs.declared.config.Config.{Config}
 use Rattle.calls.specs.declared.line.Line.{Line}
 use Rattle.calls.specs.declared.line.Act.{Act}
 use Rattle.calls.specs.declared.line.Act.TheVariants as act
-use Rattle.calls.specs.declared.line.Line.TheVariants.{Task}
-use Rattle.calls.specs.Lines.{FitsItsTask, call_count}
+use Rattle.calls.specs.declared.line.Line.TheVariants.{Task, Tick}
+use Rattle.calls.specs.Lines.{FitsItsTask, call_count, tick_count}
 use Rattle.calls.specs.Words.{text_of_line, LineFits}
 use Rattle.spelling.specs.Digits.{hex_colour}
 use Rattle.spelling.specs.Parts.{lines_of, is_printable}
 use Rattle.spelling.specs.Words.{text_of_words}
 use Rattle.spelling.specs.Fields.{Field, Natural, Colour, AreIn, text_with}
 use Rattle.spelling.specs.Items.{AreItems, all_after}
+use Rattle.script.specs.Counts.{count_alike}
 
 -- ---- the fields of lines
 
 abbrev pub screen_fields : List Field
 screen_fields = Natural 1 1024 ∷ Natural 1 768 ∷ []
+
+abbrev pub buffers_fields : List Field
+buffers_fields = Natural 1 3 ∷ []
 
 abbrev pub desktop_fields : List Field
 desktop_fields = Colour ∷ []
@@ -74,10 +78,12 @@ string_text number text = text_of_words (codes "string" ∷ decimal number ∷ t
 
 -- ---- what items say
 
--- the screen's sides, the desktop's colour, what windows paint with, and the call lines
+-- the screen's sides and its number of buffers, the desktop's colour, what windows paint with, and
+-- the call lines
 pub record Listing : Type 0 where
   pub width : ℕ
   pub height : ℕ
+  pub buffers : ℕ
   pub desktop : ℕ
   pub assets : Assets
   pub lines : List Line
@@ -87,7 +93,7 @@ no_assets = record { classes = []; fonts = []; bitmaps = []; strings = [] }
 
 abbrev pub empty_listing : Listing
 empty_listing =
-    record { width = 0; height = 0; desktop = 0; assets = no_assets; lines = [] }
+    record { width = 0; height = 0; buffers = 0; desktop = 0; assets = no_assets; lines = [] }
 
 -- the class that has a back colour alone, or nothing
 abbrev pub plain_class : Option ℕ → Class
@@ -171,11 +177,14 @@ locks_after locks task (act.Call call) = locks
 locks_after locks task act.Lock = slice_set locks task (open_locks locks task + 1)
 locks_after locks task act.Unlock = slice_set locks task (open_locks locks task - 1)
 
+-- the same of a line; a tick needs no lock
 abbrev pub may_do : List ℕ → Line → Bool
 may_do locks (Task task a) = may_act_with (open_locks locks task) a
+may_do locks Tick = true
 
 abbrev pub locks_with : List ℕ → Line → List ℕ
 locks_with locks (Task task a) = locks_after locks task a
+locks_with locks Tick = locks
 
 -- no task holds the lock
 abbrev pub no_locks : List ℕ
@@ -192,7 +201,7 @@ are_free locks = list_all (λ n. n == 0) locks
 pub data Item : Type 0 where
   Title : Item
   Screen : ℕ → ℕ → Item
-  Buffers : Item
+  Buffers : ℕ → Item
   Desktop : ℕ → Item
   FontOf : Font → Item
   BitmapOf : Bitmap → Item
@@ -217,7 +226,7 @@ with_desktop l colour = with_class (record l { desktop = colour }) (plain_class 
 abbrev pub after : Before → Item → Before
 after b Title = record b { header = 1 }
 after b (Screen w h) = record b { header = 2; said = record b.said { width = w; height = h } }
-after b Buffers = record b { header = 3 }
+after b (Buffers n) = record b { header = 3; said = record b.said { buffers = n } }
 after b (Desktop colour) = record b { header = 4; said = with_desktop b.said colour }
 after b (FontOf font) = record b { said = with_font b.said font }
 after b (BitmapOf bitmap) = record b { said = with_bitmap b.said bitmap }
@@ -276,11 +285,11 @@ pub record IsClassBlock (b : Before) (back : Option ℕ) (lines : List ClassLine
   pub are : AreClassLines b.said.assets back lines body
   pub spelled : block ≡ class_text (length b.said.assets.classes) back ∷ body ++ codes "end" ∷ []
 
--- a call line: after the header, one of at most 400,000, and what the locks allow
+-- a call line: after the header, one of at most 400,000 of its kind, and what the locks allow
 pub record IsCallBlock (b : Before) (line : Line) (block : List (List ℕ)) : Type 0 where
   pub header : b.header ≡ 4
   pub may : may_do b.locks line ≡ true
-  pub few : length b.said.lines + 1 ≤ 400000
+  pub few : count_alike line b.said.lines + 1 ≤ 400000
   pub fits : LineFits line
   pub spelled : block ≡ text_of_line line ∷ []
 
@@ -290,7 +299,9 @@ Spells b Title block = IsHeader b 0 block (codes "mtgui 1")
 Spells b (Screen w h) block =
     IsHeader b 1 block (text_with (codes "screen") screen_fields (w, (h, tt)))
     × AreIn screen_fields (w, (h, tt))
-Spells b Buffers block = IsHeader b 2 block (codes "buffers 1")
+Spells b (Buffers n) block =
+    IsHeader b 2 block (text_with (codes "buffers") buffers_fields (n, tt))
+    × AreIn buffers_fields (n, tt)
 Spells b (Desktop colour) block =
     IsHeader b 3 block (text_with (codes "desktop") desktop_fields (colour, tt))
     × AreIn desktop_fields (colour, tt)
@@ -312,13 +323,13 @@ pub record Script : Type 0 where
   pub assets : Assets
   pub lines : List Line
 
--- the script of what items say: one buffer, and room for as many calls as its lines ask for
+-- the script of what items say, with room for as many calls as its lines ask for
 abbrev pub script_for : Listing → Script
 script_for l = record {
   config = record {
     w = l.width;
     h = l.height;
-    buffers = 1;
+    buffers = l.buffers;
     desktop = l.desktop;
     calls = call_count l.lines;
   };
@@ -345,9 +356,11 @@ IsNoScript file = (s : Script) → IsScript file s → ⊥
 pub record IsReady (s : Script) : Type 0 where
   pub width : (1 ≤ s.config.w) × (s.config.w ≤ 1024)
   pub height : (1 ≤ s.config.h) × (s.config.h ≤ 768)
-  pub buffers : s.config.buffers ≡ 1
+  pub buffers : (1 ≤ s.config.buffers) × (s.config.buffers ≤ 3)
   pub calls : s.config.calls ≡ call_count s.lines
-  pub few_lines : length s.lines ≤ 400000
+  pub few_calls : call_count s.lines ≤ 400000
+  pub few_ticks : tick_count s.lines ≤ 400000
+  pub few_lines : length s.lines ≤ 800000
   pub has_desktop : 1 ≤ length s.assets.classes
   pub assets : IsSound s.assets
   pub lines : AllByRecursion FitsItsTask s.lines

@@ -1,6 +1,6 @@
 //! A script as far as it was read.
 
-ghost use Rattle.std.specs.Prelude.{◌≡◌, ◌≤◌, length, IfOk, Ok};
+ghost use Rattle.std.specs.Prelude.{◌≡◌, true, IfOk, Ok};
 ghost use Rattle.glyph_font.specs.Reading as fonts;
 ghost use Rattle.bitmap.specs.Reading as bitmaps;
 ghost use Rattle.script.specs.declared.draft.Block.{Block as BlockOf};
@@ -15,14 +15,17 @@ ghost use Rattle.script.specs.Reading.{after_class, after_font, after_bitmap, af
 ghost use Rattle.script.specs.Reading.{after_early, after_asset, after_other, after_body, after_block};
 ghost use Rattle.script.specs.Reading.{after_words, after_call_line};
 ghost use Rattle.script.specs.Fields.{class_in, font_in, bitmap_in, string_in, IsTasks};
-ghost use Rattle.script.specs.Scripts.{are_there, plain_class, may_act_with, are_free, script_for};
+ghost use Rattle.script.specs.Scripts.{are_there, plain_class, may_act_with, may_do, locks_with, are_free, script_for};
 
+use crate::call_lines::CallLines;
 use crate::fault::{LineError, Reason};
-use crate::fields::{bitmap_in, class_in, desktop_in, font_in, line_in, screen_in, string_in};
-use crate::reasons::{call_reason, drawing_reason, header_reason, is_asset_word};
+use crate::fields::{
+    bitmap_in, buffers_in, class_in, desktop_in, font_in, line_in, screen_in, string_in,
+};
+use crate::reasons::{call_reason, drawing_reason, is_asset_word};
 use crate::script::Script;
 use bitmap::{BitmapDraft, BitmapLineError};
-use calls::{Act, Config, Line, call_count};
+use calls::{Act, Config, Line};
 use class_lines::{ClassLine, class_line};
 use gfx_base::Colour;
 use glyph_font::{FontDraft, FontLineError};
@@ -45,9 +48,6 @@ const MOST_OPERATIONS: usize = 64;
 
 /// How many reactions a class may have.
 const MOST_REACTIONS: usize = 16;
-
-/// How many call lines a script may have.
-const MOST_LINES: usize = 400_000;
 
 /// How many times over a task may hold the lock.
 const MOST_LOCKS: u8 = 100;
@@ -80,9 +80,10 @@ pub struct Draft {
     pub stage: Stage,
     width: u16,
     height: u16,
+    buffers: u8,
     desktop: Colour,
     assets: Assets,
-    lines: Vec<Line>,
+    lines: CallLines,
     /// How many locks of each task are open. Tasks are numbered from 1.
     locks: [u8; 17],
 }
@@ -103,7 +104,7 @@ fn take_title(draft: &mut Draft, line: &[u8]) -> Result<(), LineError>
     ensures { Takes result draft.new (after_title (draft_of draft.old) line.now) }
 {
     if line != b"mtgui 1".as_slice() {
-        return Err(LineError::Wrong(header_reason(line)));
+        return Err(LineError::Wrong(Reason::Header));
     }
     draft.stage = Stage::Screen;
     Ok(())
@@ -114,7 +115,7 @@ fn take_screen(draft: &mut Draft, line: &[u8]) -> Result<(), LineError>
     ensures { Takes result draft.new (after_screen (draft_of draft.old) line.now) }
 {
     let Some((width, height)) = screen_in(line) else {
-        return Err(LineError::Wrong(header_reason(line)));
+        return Err(LineError::Wrong(Reason::Header));
     };
     draft.width = width;
     draft.height = height;
@@ -126,9 +127,10 @@ fn take_screen(draft: &mut Draft, line: &[u8]) -> Result<(), LineError>
 fn take_buffers(draft: &mut Draft, line: &[u8]) -> Result<(), LineError>
     ensures { Takes result draft.new (after_buffers (draft_of draft.old) line.now) }
 {
-    if line != b"buffers 1".as_slice() {
-        return Err(LineError::Wrong(header_reason(line)));
-    }
+    let Some(buffers) = buffers_in(line) else {
+        return Err(LineError::Wrong(Reason::Header));
+    };
+    draft.buffers = buffers;
     draft.stage = Stage::Desktop;
     Ok(())
 }
@@ -138,7 +140,7 @@ fn take_desktop(draft: &mut Draft, line: &[u8]) -> Result<(), LineError>
     ensures { Takes result draft.new (after_desktop (draft_of draft.old) line.now) }
 {
     let Some(colour) = desktop_in(line) else {
-        return Err(LineError::Wrong(header_reason(line)));
+        return Err(LineError::Wrong(Reason::Header));
     };
     draft.desktop = colour;
     draft
@@ -336,7 +338,7 @@ fn take_other(draft: &mut Draft, text: &[u8]) -> Result<(), LineError>
     if is_asset_word(first) {
         take_asset(draft, first, rest)
     } else {
-        Err(LineError::Wrong(call_reason(first, rest)))
+        Err(LineError::Wrong(call_reason(first)))
     }
 }
 
@@ -351,25 +353,45 @@ fn may_act(locks: u8, act: &Act) -> bool
     }
 }
 
+/// Whether the open locks of tasks allow a line.
+fn may_do(locks: &[u8; 17], line: &Line) -> bool
+    requires { IsTasks line.now }
+    ensures { result ≡ may_do locks.now line.now }
+{
+    match line {
+        Line::Task { task, act } => may_act(locks[usize::from(*task)], act),
+        Line::Tick => true,
+    }
+}
+
+/// Counts the lock that a line takes or gives back.
+fn count_locks(locks: &mut [u8; 17], line: &Line)
+    requires task { IsTasks line.now }
+    requires may { may_do locks.old line.now ≡ true }
+    ensures { locks.new ≡ locks_with locks.old line.now }
+{
+    if let Line::Task { task, act } = line {
+        let task = usize::from(*task);
+        match act {
+            Act::Call(_) => {}
+            Act::Lock => locks[task] += 1,
+            Act::Unlock => locks[task] -= 1,
+        }
+    }
+}
+
 /// Takes a call line.
 fn take_call(draft: &mut Draft, line: Line) -> Result<(), LineError>
     requires { IsTasks line }
     ensures { Takes result draft.new (after_call_line (draft_of draft.old) line) }
 {
-    let Line::Task { task, act } = &line;
-    let task = usize::from(*task);
-    let locks = draft.locks[task];
-    if !may_act(locks, act) {
+    if !may_do(&draft.locks, &line) {
         return Err(LineError::Wrong(Reason::Lock));
     }
-    if draft.lines.len() >= MOST_LINES {
+    if !draft.lines.have_room(&line) {
         return Err(LineError::Wrong(Reason::Many));
     }
-    match act {
-        Act::Call(_) => {}
-        Act::Lock => draft.locks[task] = locks + 1,
-        Act::Unlock => draft.locks[task] = locks - 1,
-    }
+    count_locks(&mut draft.locks, &line);
     draft.lines.push(line)?;
     Ok(())
 }
@@ -400,9 +422,10 @@ impl Draft {
             stage: Stage::Title,
             width: 0,
             height: 0,
+            buffers: 0,
             desktop: Colour::default(),
             assets,
-            lines: Vec::new(alloc),
+            lines: CallLines::new(alloc),
             locks: [0; 17],
         })
     }
@@ -439,19 +462,18 @@ impl Draft {
 
     /// The script, where all lines were read.
     pub fn into_script(self) -> Script
-        requires { length (draft_of self).said.lines ≤ 400000 }
         ensures { result ≡ script_for (draft_of self).said }
     {
         Script {
             config: Config {
                 w: self.width,
                 h: self.height,
-                buffers: 1,
+                buffers: self.buffers,
                 desktop: self.desktop,
-                calls: call_count(&self.lines) as u32,
+                calls: self.lines.call_count(),
             },
             assets: self.assets,
-            lines: self.lines,
+            lines: self.lines.into_lines(),
         }
     }
 }

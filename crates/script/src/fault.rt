@@ -29,7 +29,7 @@ pub enum Reason {
     Call,
     /// It gives back a lock that its task doesn't hold, or takes the 101st.
     Lock,
-    /// It is one call line too many.
+    /// It is one line of a task or one tick too many.
     Many,
     /// The file ends before it, in the header, in a block or with an open lock.
     End,
@@ -70,6 +70,14 @@ impl<T: Drop> From<AllocFailed<T>> for LineError {
     ghost from_gives = { λ _ e. e ≡ line.Memory };
 
     fn from(_: AllocFailed<T>) -> LineError {
+        LineError::Memory
+    }
+}
+
+impl From<AllocError> for LineError {
+    ghost from_gives = { λ _ e. e ≡ line.Memory };
+
+    fn from(_: AllocError) -> LineError {
         LineError::Memory
     }
 }

@@ -1,10 +1,11 @@
-//! What the lines of a script say: the screen's sides, colours, classes, strings and calls.
+//! What the lines of a script say: the screen's sides and buffers, colours, classes, strings and
+//! calls.
 
 ghost use Rattle.std.specs.Prelude.{◌≡◌, ◌≤◌, IfSome};
 ghost use Rattle.spelling.specs.Words.{Gives, left, words_of};
 ghost use Rattle.spelling.specs.Fields.{Reads};
-ghost use Rattle.calls.specs.Words.{call_with, act_at, line_of};
-ghost use Rattle.script.specs.Fields.{screen_in, desktop_in, back_of, back_in, class_in, font_in, bitmap_in, text_in, string_in, IsTasks};
+ghost use Rattle.calls.specs.Words.{call_with, act_at, task_line_of, line_of};
+ghost use Rattle.script.specs.Fields.{screen_in, buffers_in, desktop_in, back_of, back_in, class_in, font_in, bitmap_in, text_in, string_in, IsTasks};
 
 use calls::{Act, Call, Line, Word};
 use gfx_base::Colour;
@@ -23,6 +24,22 @@ pub fn screen_in(line: &[u8]) -> Option<(u16, u16)>
     let height = args.natural(1, 768)?;
     if args.is_done() {
         Some((width, height))
+    } else {
+        None
+    }
+}
+
+/// The number that `buffers N` says.
+#[tactic(auto, unfolding(crate::specs::Fields::buffers_in, spelling::specs::Fields::line_values))]
+pub fn buffers_in(line: &[u8]) -> Option<u8>
+    ensures { Gives (λ buffers. (buffers, tt)) result (buffers_in (words_of line.now)) }
+{
+    let mut args = Args {
+        rest: after_word(b"buffers", Some(line))?,
+    };
+    let buffers = args.natural(1, 3)?;
+    if args.is_done() {
+        Some(buffers as u8)
     } else {
         None
     }
@@ -244,6 +261,8 @@ fn call_with(word: Word, args: &mut Args) -> Option<Call>
             x1: args.number()?,
             y1: args.number()?,
         }),
+        Word::Begin => Some(Call::Begin),
+        Word::End => Some(Call::End),
         Word::Exec => Some(Call::Exec),
         Word::Exec1 => Some(Call::Exec1),
         Word::Scan => Some(Call::Scan),
@@ -265,10 +284,10 @@ fn act_at(args: &mut Args) -> Option<Act>
     }
 }
 
-/// The call line that a line says.
-#[tactic(auto, unfolding(calls::specs::Words::line_of))]
-pub fn line_in(line: &[u8]) -> Option<Line>
-    ensures value { result ≡ line_of (words_of line.now) }
+/// What a line says that a task does.
+#[tactic(auto, unfolding(calls::specs::Words::task_line_of))]
+fn task_line_in(line: &[u8]) -> Option<Line>
+    ensures value { result ≡ task_line_of (words_of line.now) }
     ensures within { IfSome result IsTasks }
 {
     let mut args = Args { rest: Some(line) };
@@ -278,5 +297,18 @@ pub fn line_in(line: &[u8]) -> Option<Line>
         Some(Line::Task { task, act })
     } else {
         None
+    }
+}
+
+/// The call line that a line says.
+#[tactic(auto, unfolding(calls::specs::Words::line_of))]
+pub fn line_in(line: &[u8]) -> Option<Line>
+    ensures value { result ≡ line_of (words_of line.now) }
+    ensures within { IfSome result IsTasks }
+{
+    if line == b"display tick".as_slice() {
+        Some(Line::Tick)
+    } else {
+        task_line_in(line)
     }
 }

@@ -5,6 +5,7 @@ ghost use Rattle.script.specs.declared.fault.ScriptFault.{ScriptFault};
 ghost use Rattle.script.specs.Scripts.{Script, IsScript, IsNoScript, AreItemsOf, listing_of};
 ghost use Rattle.script.specs.Faults.{IsFault};
 ghost use Rattle.script.specs.Examples.{small_listing, small_items, small_lines};
+ghost use Rattle.script.specs.Examples.{tick_listing, tick_items, tick_lines};
 
 /// Does nothing. A file is at most one script.
 pub fn one_script()
@@ -27,8 +28,11 @@ pub fn prefix_says_all()
         ↔ IsFault file fault }
 {}
 
-/// Does nothing. The items of a small script, written out with comments, and what they say.
+/// Does nothing. The items of a small script, written out with comments, and what they say; and
+/// those of one with two buffers and a tick.
 pub fn spelling_in_numbers()
     ensures items { AreItemsOf small_items small_lines }
     ensures listing { listing_of small_items ≡ small_listing }
+    ensures ticks { AreItemsOf tick_items tick_lines }
+    ensures ticks_listing { listing_of tick_items ≡ tick_listing }
 {}

@@ -5,8 +5,8 @@ use std::marker::Model;
 /// What a script says.
 #[derive(Drop)]
 pub struct Script {
-    /// The screen's sides, the desktop's colour and the number of calls, which lines on the lock
-    /// are not.
+    /// The screen's sides and buffers, the desktop's colour and the number of calls, which lines on
+    /// the lock and ticks are not.
     pub config: Config,
     /// What windows paint with. Class 0 is the desktop's: its back colour is the desktop's colour.
     pub assets: Assets,

@@ -52,16 +52,14 @@ const BITMAP: &str = "mtgui 1\nscreen 8 4\nbuffers 1\ndesktop 000000\nbitmap 0 3
 /// rest of each, which `|` parts.
 pub type Faulty = (u32, Reason, &'static str, &'static str);
 
-/// Lines of the forms that aren't built: those with each first word, and those of a task with each
-/// word after it. What follows these words isn't looked at.
-const LATER: &str = "display tick\n|display|display x\n|viewer 1 join\n|viewer 9 x\n|viewer\n\
-    |viewer  1 take\n|done\n|done 1\n|done|1 begin\n|1 begin \n|1 begin 0\n|2 begin|1 end\n\
-    |16 end 1\n";
+/// Lines of the forms that aren't built, with each first word. What follows it isn't looked at.
+const LATER: &str = "viewer 1 join\n|viewer 9 x\n|viewer\n|viewer  1 take\n|viewer \n|done\n\
+    |done 1\n|done";
 
 /// Lines that nearly are of such forms, and lines of forms that are built. They go on with no font,
 /// bitmap or class.
-const NOT_LATER: &str = "0 begin\n|17 begin\n|01 begin\n|-1 end\n|begin\n|1 Begin\n|1 begins\n\
-    |1  begin\n| 1 begin\n|1\n|1 \n|Done\n|dones\n| done\n|displays tick\n|Viewer 1 join\n\
+const NOT_LATER: &str = "display tick\n|display\n|display x\n|displays tick\n|1 begin\n\
+    |1 begin 2\n|16 end\n|begin\n|1\n|1 \n|Done\n|dones\n| done\n|Viewer 1 join\n\
     |1 display tick\n|1 viewer 1 join\n|1 tick\n|1 done\n|1 exec\n|16 scan|1 lock\n|1 unlock\n\
     |1 set_trans 2 1\n|1 set_value 2 0 1\n|1 send 2 1 1\n|1 hide x\n|1 jump\n|buffers 2\n\
     |1 select 2\n|1 colour FF0000\n|1 bk_colour -\n|1 text_mode trans\n|1 font 0\n|1 save\n\
@@ -84,7 +82,7 @@ pub fn first_other(alloc: Global, files: &[Faulty]) -> Option<(u32, &'static str
 }
 
 /// Faults in the header.
-const IN_HEADERS: [Faulty; 11] = [
+const IN_HEADERS: [Faulty; 7] = [
     // A line is missing, comes twice, or is spelled otherwise.
     (
         1,
@@ -92,7 +90,8 @@ const IN_HEADERS: [Faulty; 11] = [
         "",
         "screen 8 4\nbuffers 1\n|mtgui 0\n|mtgui 2\nscreen 0 0\n|mtgui 01\n|mtgui  1\n\
         |mtgui 1 \n| mtgui 1\n|MTGUI 1\n|mtgui\n|mtgui 1 1\n| \nmtgui 1\n|font 0 1\n\
-        |class 1 -\n|display tick\n|1 exec\n",
+        |class 1 -\n|display tick\n|viewer 1 join\n|done\n|1 exec\n|buffers 2\n\
+        |buffers 3\nmtgui 2\n",
     ),
     (
         2,
@@ -101,7 +100,8 @@ const IN_HEADERS: [Faulty; 11] = [
         "buffers 1\n|mtgui 1\n|desktop 000000\n|font 0 1\n|screen 08 4\n|screen  8 4\n\
         |screen 8 4 \n|screen -1 4\n|screen +8 4\n|screen 8\n|screen 8 4 1\n|screen 0 4\n\
         |screen 1025 4\n|screen 8 0\n|screen 8 769\n|screen 1025 768\n|screen 1024 769\n\
-        |screen 65537 1\n|screen 8 4294967297\n|screen\n|Screen 8 4\n|string 0 a\n",
+        |screen 65537 1\n|screen 8 4294967297\n|screen\n|Screen 8 4\n|string 0 a\n\
+        |buffers 2\n|buffers 3\n|done\n",
     ),
     (
         3,
@@ -109,21 +109,17 @@ const IN_HEADERS: [Faulty; 11] = [
         SCREEN,
         "desktop 000000\n|screen 8 4\n|buffers 0\n|buffers 4\n|buffers 01\n|buffers 1 \n\
         |buffers 2 \n|buffers\n|buffers 1 1\n|buffers -1\n|buffers 10\n|Buffers 1\n\
-        |bitmap 0 1 1\n",
+        |buffers 3 3\n|buffers 0 2\n|buffers 02\n|buffers +2\n|buffers 257\n\
+        |buffers 4294967298\n|buffers  2\n|buffer 2\n|bitmap 0 1 1\n",
     ),
     (
         4,
         Reason::Header,
         BUFFERS,
-        "1 exec\n|buffers 1\n|desktop 00000\n|desktop 0000000\n|desktop 0000ff\n\
-        |desktop  000000\n|desktop 000000 \n|desktop -\n|desktop\n|desktop 000000 1\n\
+        "1 exec\n|buffers 1\n|buffers 2\n|buffers 3|desktop 00000\n|desktop 0000000\n\
+        |desktop 0000ff\n|desktop  000000\n|desktop 000000 \n|desktop -\n|desktop\n|desktop 000000 1\n\
         |desktop 00000G\n|Desktop 000000\n|class 1 -\n|done\n",
     ),
-    // Not built yet.
-    (1, Reason::Later, "", "buffers 2\n|buffers 3\nmtgui 2\n"),
-    (2, Reason::Later, TITLE, "buffers 2\n|buffers 3\n"),
-    (3, Reason::Later, SCREEN, "buffers 2\n|buffers 3\n"),
-    (4, Reason::Later, BUFFERS, "buffers 2\n|buffers 3"),
     // Bytes that no line has.
     (
         1,
@@ -161,7 +157,8 @@ const CUT: [Faulty; 10] = [
         4,
         Reason::End,
         "",
-        "# only\n\n# comments\n|mtgui 1\nscreen 8 4\nbuffers 1|mtgui 1\nscreen 8 4\n\n",
+        "# only\n\n# comments\n|mtgui 1\nscreen 8 4\nbuffers 1|mtgui 1\nscreen 8 4\n\n\
+        |mtgui 1\nscreen 8 4\nbuffers 2\n|mtgui 1\nscreen 8 4\nbuffers 3",
     ),
     (5, Reason::End, BUFFERS, "#\n|#"),
     (
@@ -492,9 +489,8 @@ const IN_PICTURES: [Faulty; 17] = [
         8,
         Reason::Later,
         HEADER,
-        "font 0 1\nglyph 65 1\n#\n1 begin\n|font 0 1\nglyph 65 1\n#\ndone|font 0 1\nglyph 65 1\n.\n\
-        display tick\n|bitmap 0 1 2\n-\n-\n2 begin\n|bitmap 0 1 2\n-\n-\nviewer 1 join\n\
-        |bitmap 0 1 2\n-\n-\n1 end\n|bitmap 0 1 3\n-\n-\n16 end",
+        "font 0 1\nglyph 65 1\n#\nviewer\n|font 0 1\nglyph 65 1\n#\ndone|font 0 1\nglyph 65 1\n.\n\
+        done 1\n|bitmap 0 1 2\n-\n-\nviewer 1 join\n|bitmap 0 1 3\n-\n-\ndone",
     ),
     // Forms that are built, and other spellings.
     (6, Reason::Block, FONT, NOT_LATER),
@@ -523,7 +519,7 @@ fn the_first_fault_of_fonts_and_bitmaps(rt: HostRuntime) {
 }
 
 /// Faults of call lines.
-const IN_CALLS: [Faulty; 23] = [
+const IN_CALLS: [Faulty; 27] = [
     // The task, and the form of a line.
     (
         5,
@@ -697,15 +693,43 @@ const IN_CALLS: [Faulty; 23] = [
         6,
         Reason::Later,
         HEADER,
-        "1 exec\n1 end\n|1 exec\ndone\n|1 lock\n1 begin\n|1 lock\ndisplay tick|1 lock\n2 begin\n",
+        "1 exec\nviewer 1 take\n|1 exec\ndone\n|1 lock\nviewer|display tick\ndone\n",
     ),
-    // Other spellings of those.
+    // Other spellings of those, of begin and end, and of ticks.
     (
         5,
         Reason::Call,
         HEADER,
         "0 begin\n|17 begin\n|01 begin\n|begin\n|1 Begin\n|1 begins\n|1  begin\n| 1 begin\n|Done\n\
-        |displays tick\n|1 display tick\n|1 viewer 1 join\n| display tick\n",
+        |1 begin 2\n|1 begin \n|1 end 1\n|16 end 0\n|-1 end\n|1 viewer 1 join\n|viewers\n",
+    ),
+    (
+        5,
+        Reason::Call,
+        HEADER,
+        "display\n|display \n|display x\n|display ticks\n|display tick \n|display  tick\n\
+        |display tick tick\n|display tick 0\n| display tick\n|displays tick\n|Display tick\n\
+        |1 display tick\n|tick\n|tick display\n|display Tick\n|display lock\n|display exec\n",
+    ),
+    // A tick is a call line, and changes no lock.
+    (
+        6,
+        Reason::Late,
+        HEADER,
+        "display tick\nclass 1 -\nend\n|display tick\nfont\n|display tick\nstring 0 a\n\
+        |display tick\nbitmap 0 1 1\n-\nend\n",
+    ),
+    (
+        7,
+        Reason::Lock,
+        HEADER,
+        "display tick\ndisplay tick\n1 unlock\n|1 lock\ndisplay tick\n2 unlock\n",
+    ),
+    (
+        7,
+        Reason::End,
+        HEADER,
+        "1 lock\ndisplay tick\n|display tick\n2 lock|1 lock\ndisplay tick",
     ),
     // Bytes that no line has.
     (

@@ -1,6 +1,6 @@
 //! How much a script may have: one more is a fault.
 
-use crate::faults::{HEADER, is_fault};
+use crate::faults::{HEADER, is_fault, is_fault_after};
 use script::{MOST_BYTES, Reason, Script, read};
 use std::alloc::Global;
 
@@ -104,6 +104,33 @@ fn are_most_calls_read(alloc: Global) -> bool {
 #[test]
 fn a_script_has_at_most_400_000_calls(rt: HostRuntime) {
     assert!(rt; are_most_calls_read(rt.alloc()));
+}
+
+/// Whether 400,000 ticks are read beside as many calls, and one more of either is a fault of its
+/// line.
+fn are_most_ticks_read(alloc: Global) -> Option<bool> {
+    let mut text = text_with_most_calls(alloc)?;
+    for _ in 0..400_000 {
+        text.push_str("display tick\n").ok()?;
+    }
+    let script = read(alloc, text.as_bytes()).ok()?;
+    Some(
+        script.config.calls == 400_000
+            && script.lines.len() == 800_000
+            && is_fault_after(
+                alloc,
+                &text,
+                "display tick\n1 jump\n",
+                800_009,
+                Reason::Many,
+            )
+            && is_fault_after(alloc, &text, "2 lock\n", 800_009, Reason::Many),
+    )
+}
+
+#[test]
+fn a_script_has_at_most_400_000_ticks(rt: HostRuntime) {
+    assert_eq!(rt; are_most_ticks_read(rt.alloc()), Some(true));
 }
 
 /// Whether the fault of the largest file is told, and one more byte is too many.

@@ -69,7 +69,7 @@ const EACH_CALL: &str = "mtgui 1\nscreen 8 4\nbuffers 1\ndesktop 000000\n\
     12 restore\n13 fill -32768 -1 0 32767\n14 frame 32767 2 -3 -32768\n15 line 1 -2 3 -4\n\
     16 bitmap 255 -32768 32767\n1 text 32767 -32768 255\n2 set_memdev 17 1\n\
     3 set_memdev 18 0\n4 dev_create 0 65535\n5 dev_delete 4294967295\n6 dev_select 0\n\
-    7 dev_copy 19 -32768 32767\n";
+    7 dev_copy 19 -32768 32767\n8 begin\n9 end\n";
 
 #[test]
 fn each_word_is_its_call(rt: HostRuntime) {
@@ -192,6 +192,8 @@ fn each_word_is_its_call(rt: HostRuntime) {
             x: i16::MIN,
             y: i16::MAX,
         },
+        Call::Begin,
+        Call::End,
     ];
     let mut task = 0u16;
     for (read, call) in script.lines.iter().zip(&calls) {
@@ -199,6 +201,19 @@ fn each_word_is_its_call(rt: HostRuntime) {
         assert!(rt; *read == line(task, *call), "task {task}");
     }
     assert_eq!(rt; script.lines.len(), calls.len());
+}
+
+/// Whether a script with so many buffers is read.
+fn reads_buffers(alloc: Global, buffers: u8) -> Option<bool> {
+    let text = format!(in alloc; "mtgui 1\nscreen 8 4\nbuffers {buffers}\ndesktop 000000\n").ok()?;
+    Some(read(alloc, text.as_bytes()).ok()?.config.buffers == buffers)
+}
+
+#[test]
+fn a_screen_has_from_1_to_3_buffers(rt: HostRuntime) {
+    for buffers in 1..=3 {
+        assert_eq!(rt; reads_buffers(rt.alloc(), buffers), Some(true), "{buffers}");
+    }
 }
 
 /// Texts of the least and the greatest numbers, with the screen's sides, the desktop's colour and
@@ -458,8 +473,9 @@ fn classes_without_a_back_colour(rt: HostRuntime) {
     assert_eq!(rt; reads_see_through(rt.alloc()), Some(true));
 }
 
-/// Locks of two tasks that lie in each other, with calls between.
-const LOCKED: &str = "3 lock\n3 lock\n# held\n16 exec\n3 unlock\n16 lock\n\n3 scan\n3 unlock\n\
+/// Locks of two tasks that lie in each other, with calls and a tick between.
+const LOCKED: &str =
+    "3 lock\n3 lock\n# held\n16 exec\ndisplay tick\n3 unlock\n16 lock\n\n3 scan\n3 unlock\n\
     16 unlock";
 
 /// Whether a script says what those lines say.
@@ -468,6 +484,7 @@ fn is_locked(script: &Script) -> bool {
         act_line(3, Act::Lock),
         act_line(3, Act::Lock),
         line(16, Call::Exec),
+        Line::Tick,
         act_line(3, Act::Unlock),
         act_line(16, Act::Lock),
         line(3, Call::Scan),
@@ -483,7 +500,7 @@ fn reads_locked(alloc: Global) -> Option<bool> {
 }
 
 #[test]
-fn locks_are_lines_and_no_calls(rt: HostRuntime) {
+fn locks_and_ticks_are_lines_and_no_calls(rt: HostRuntime) {
     assert_eq!(rt; reads_locked(rt.alloc()), Some(true));
 }
 

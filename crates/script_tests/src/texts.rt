@@ -3,7 +3,7 @@
 use calls::{Call, Refusal, Reply};
 use frame::Frame;
 use gfx_base::Colour;
-use journal::{write_fault, write_frame, write_reply, write_summary};
+use journal::{write_fault, write_frame, write_reply, write_summary, write_tick};
 use outside::{MemSink, Sink};
 use std::alloc::Global;
 
@@ -124,7 +124,7 @@ const TEXT: Call = Call::Text {
 };
 
 /// Calls, what they are answered, and the answer's line.
-const ANSWERS: [(Call, Reply, &str); 23] = [
+const ANSWERS: [(Call, Reply, &str); 26] = [
     (Call::Exec, Reply::Done, "ok\n"),
     (CREATE, Reply::Handle(70_000), "ok 70000\n"),
     (Call::Exec, Reply::Jobs(12), "ok 12\n"),
@@ -205,6 +205,21 @@ const ANSWERS: [(Call, Reply, &str); 23] = [
         Reply::Refused(Refusal::Memory),
         "refused Memory\n",
     ),
+    (
+        Call::Begin,
+        Reply::Refused(Refusal::OpenDepth),
+        "refused OpenDepth\n",
+    ),
+    (
+        Call::End,
+        Reply::Refused(Refusal::NotOpen),
+        "refused NotOpen\n",
+    ),
+    (
+        Call::Exec1,
+        Reply::Refused(Refusal::Waiting(u32::MAX)),
+        "refused Waiting 4294967295\n",
+    ),
     (Call::Exec, Reply::Refused(Refusal::Full), "refused Full\n"),
     (Call::DevSelect { device: 0 }, Reply::Done, "ok\n"),
     (
@@ -253,20 +268,23 @@ fn a_scan_is_answered_by_the_shown_frame(rt: HostRuntime) {
     assert!(rt; is_scan_answered(rt.alloc()));
 }
 
-const LAST_LINES: &[u8] = b"done calls 50 refused 1 shown 22 windows 3\nfault 7 syntax\n";
+const LAST_LINES: &[u8] =
+    b"shown\nnothing\ndone calls 50 refused 1 shown 22 windows 3\nfault 7 syntax\n";
 
-/// Whether these two lines are written in two writes.
+/// Whether these four lines are written in four writes.
 fn are_last_lines_written(alloc: Global) -> bool {
-    let Some(mut out) = sink(alloc, 100, 2) else {
+    let Some(mut out) = sink(alloc, 100, 4) else {
         return false;
     };
-    write_summary(&mut out, 50, 1, 22, 3).is_ok()
+    write_tick(&mut out, true).is_ok()
+        && write_tick(&mut out, false).is_ok()
+        && write_summary(&mut out, 50, 1, 22, 3).is_ok()
         && write_fault(&mut out, 7, b"syntax").is_ok()
         && write_fault(&mut out, 7, b"syntax").is_err()
         && out.bytes() == LAST_LINES
 }
 
 #[test]
-fn the_last_line_and_a_fault_are_one_write_each(rt: HostRuntime) {
+fn ticks_the_last_line_and_a_fault_are_one_write_each(rt: HostRuntime) {
     assert!(rt; are_last_lines_written(rt.alloc()));
 }

@@ -18,6 +18,9 @@ returns c = record {
   class = refl;
   window = refl;
   many = refl;
+  waiting = refl;
+  shown = refl;
+  nothing = refl;
   summary = refl;
   fault = refl;
 }

@@ -1,7 +1,7 @@
-use Rattle.std.proofs.Common.{◌+◌, ◌≤◌, length, drop, ap, sym, subst, ◌∙◌}
+use Rattle.std.proofs.Common.{◌+◌, ◌≤◌, drop, ap, sym, subst, ◌∙◌}
 use Rattle.calls.specs.declared.line.Line.{Line}
 use Rattle.calls.specs.Lines.{call_count}
-use Rattle.gui_core.specs.Histories.{Chronicle, state_of}
+use Rattle.gui_core.specs.Histories.{Chronicle, state_of, calls_in}
 use Rattle.mtgui_top.specs.Changes.{may_change}
 use Rattle.mtgui_top.specs.Histories.{LineDone, HasRoom}
 use Rattle.mtgui_top.proofs.PlayLemmas.{stepped, room-more, made-more, skipped-more, window_call-more, other_call-more, after_window_calls}
@@ -30,12 +30,12 @@ loop-line-preserved c =
           let done = subst (λ (l : Line). LineDone old l new) c.line-item.is w.make_call.ensures in
           record {
             setup = ap (λ (m : Chronicle). m.setup) w.gui-is ∙ done.setup ∙ kept.setup;
-            made = subst (λ (m : Chronicle). length m.history + call_count (drop (i + 1) lines) ≤ call_count lines) (sym w.gui-is) (made-more old new lines i line _ lt done kept.made);
+            made = subst (λ (m : Chronicle). calls_in m.history + call_count (drop (i + 1) lines) ≤ call_count lines) (sym w.gui-is) (made-more old new lines i line _ lt done kept.made);
             last = ap (λ (m : Chronicle). after_window_calls setup (state_of m) (drop (i + 1) lines)) w.gui-is ∙ sym (window_call-more setup (state_of old) (state_of new) lines i line lt (may ∙ w.if-changes_windows.true) (stepped setup old new _ kept.setup done)) ∙ kept.last;
           }
       | else-changes_windows w ↦ record {
         setup = ap (λ (m : Chronicle). m.setup) w.gui-is ∙ kept.setup;
-        made = subst (λ (m : Chronicle). length m.history + call_count (drop (i + 1) lines) ≤ call_count lines) (sym w.gui-is) (skipped-more old lines i _ lt kept.made);
+        made = subst (λ (m : Chronicle). calls_in m.history + call_count (drop (i + 1) lines) ≤ call_count lines) (sym w.gui-is) (skipped-more old lines i _ lt kept.made);
         last = ap (λ (m : Chronicle). after_window_calls setup (state_of m) (drop (i + 1) lines)) w.gui-is ∙ sym (other_call-more setup (state_of old) lines i line lt (may ∙ w.if-changes_windows.false)) ∙ kept.last;
       }
     ]

@@ -7,7 +7,7 @@ use Rattle.mtgui_top.specs.declared.play.Stop.{Stop}
 use Rattle.gui_core.specs.Histories.{state_of, refused_of}
 use Rattle.mtgui_top.specs.Histories.{LineDone}
 use Rattle.mtgui_top.specs.Outcome.{LinesEnd}
-use Rattle.mtgui_top.proofs.PlayLemmas.{stepped, all-made, replies-step, counted-more, after_lines-more, replies-all, summary-last, line_left}
+use Rattle.mtgui_top.proofs.PlayLemmas.{stepped, all-made, history-more, replies-step, counted-more, after_lines-more, replies-all, summary-last, line_left}
 use Rattle.mtgui_top.proofs.play.perform.Goals as goal
 
 wrote_is : {T E : Type 0} (r : Result T E) (a b : SinkLog) (t u : List ℕ) → t ≡ u → Wrote r a b t → Wrote r a b u
@@ -28,6 +28,7 @@ loop-line-preserved g c =
       setup = done.setup ∙ kept.setup;
       made = all-made old new lines i line _ c.loop-line-test.true done kept.made;
       refused = counted-more setup old new lines i line _ c.loop-line-test.true kept.setup done kept.refused;
+      history = history-more setup old new lines i line _ c.loop-line-test.true kept.setup done kept.history;
       last = sym (after_lines-more setup (state_of old) (state_of new) lines i line c.loop-line-test.true (stepped setup old new _ kept.setup done)) ∙ kept.last;
       wrote = Partly-step _ _ _ _ _ _ _ kept.wrote (replies-step setup old new lines i line _ c.line-item.is c.loop-line-test.true kept.setup ended.0) ended.1;
     }
@@ -52,8 +53,8 @@ returns-in_err-write_summary g c =
     let i = c.loop-line.line-index in
     let kept = c.loop-line.invariant in
     let r : Result (Unit {0}) _ = Err c.in_err-write_summary.field-0.0 in
-    let last = summary-last setup s now lines i (refused_of c.loop-line.gui) _ c.loop-line-test.false kept.refused kept.last (c.len.ensures.value ∙ ap length c.windows.ensures) in
-    let broken = Partly-last r _ _ _ _ _ (Partly-left _ _ _ _ _ kept.wrote (replies-all setup now lines i _ c.loop-line-test.false)) (wrote_is r _ _ _ _ last (rw (c.refused-refused.ensures, c.call_count.ensures.value) at c.in_err-write_summary.ensures)) in
+    let last = summary-last setup s now lines i (refused_of c.loop-line.gui) _ c.loop-line.gui.history c.loop-line-test.false kept.refused kept.last kept.history (c.len.ensures.value ∙ ap length c.windows.ensures) in
+    let broken = Partly-last r _ _ _ _ _ (Partly-left _ _ _ _ _ kept.wrote (replies-all setup now lines i _ c.loop-line-test.false)) (wrote_is r _ _ _ _ last (rw (c.refused-refused.ensures, c.mark_count-shown.ensures, c.history.ensures.entries, c.call_count.ensures.value) at c.in_err-write_summary.ensures)) in
     rw p.1 (subst (λ (e : Stop). LinesEnd (Err e) setup s lines (g.K.Sink.log c.args.out.now) (g.K.Sink.log c.write_summary.new.out)) (sym p.2) broken)
 
 pub returns : goal.returns
@@ -65,5 +66,5 @@ returns g c =
     let i = c.loop-line.line-index in
     let kept = c.loop-line.invariant in
     let r : Result (Unit {0}) (Unit {0}) = Ok tt in
-    let last = summary-last setup s now lines i (refused_of c.loop-line.gui) _ c.loop-line-test.false kept.refused kept.last (c.len.ensures.value ∙ ap length c.windows.ensures) in
-    Partly-last r _ _ _ _ _ (Partly-left _ _ _ _ _ kept.wrote (replies-all setup now lines i _ c.loop-line-test.false)) (wrote_is r _ _ _ _ last (rw (c.refused-refused.ensures, c.call_count.ensures.value) at c.in_ok-write_summary.ensures))
+    let last = summary-last setup s now lines i (refused_of c.loop-line.gui) _ c.loop-line.gui.history c.loop-line-test.false kept.refused kept.last kept.history (c.len.ensures.value ∙ ap length c.windows.ensures) in
+    Partly-last r _ _ _ _ _ (Partly-left _ _ _ _ _ kept.wrote (replies-all setup now lines i _ c.loop-line-test.false)) (wrote_is r _ _ _ _ last (rw (c.refused-refused.ensures, c.mark_count-shown.ensures, c.history.ensures.entries, c.call_count.ensures.value) at c.in_ok-write_summary.ensures))

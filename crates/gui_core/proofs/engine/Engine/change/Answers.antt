@@ -1,6 +1,7 @@
 use Rattle.gui_core.specs.Setups.{screen_of}
 use Rattle.gui_core.specs.Windows.{after_change}
 use Rattle.gui_core.specs.Changes.{call_for, list_after}
+use Rattle.gui_core.specs.States.{desk_of}
 use Rattle.gui_core.proofs.SceneLemmas.{scene_after}
 use Rattle.gui_core.proofs.EffectLemmas.{scene_listed, does, on_windows}
 use Rattle.gui_core.proofs.CallLemmas.{performed, replied}
@@ -16,4 +17,4 @@ invariant_of-self c =
 pub returns : goal.returns
 returns c =
     let m = the_view c.self.inside in
-    record { by = λ actor. replied _ m actor (call_for c.args.h c.args.change) c.change.result (after_change (screen_of m.setup) c.args.h m.state.windows (list_after c.args.h c.args.change m.state.windows)) c.change.new.self _ (on_windows c.args.h c.args.change) c.self.view_is c.answered.ensures (rw (c.class_count.ensures, c.screen-screen.ensures) at c.change.ensures) (does m.setup m.state c.args.h c.args.change) }
+    record { by = λ actor. replied _ m actor (call_for c.args.h c.args.change) c.change.result (after_change (screen_of m.setup) c.args.h m.state.windows (list_after c.args.h c.args.change m.state.windows)) c.change.new.self _ (on_windows c.args.h c.args.change) c.self.view_is c.answered.ensures (rw (c.class_count.ensures, c.screen-screen.ensures) at c.change.ensures) (does m.setup (desk_of m.state) c.args.h c.args.change) }

@@ -1,32 +1,47 @@
-use Rattle.std.proofs.Common.{◌≡◌, Some, sym, ap, subst, refl}
+use Rattle.std.proofs.Common.{◌≡◌, Some, refl, sym, ap, subst, ◌∙◌}
 use Rattle.std.specs.Prelude.{position}
+use Rattle.frame.specs.Pictures.{Picture}
+use Rattle.multibuf.specs.Screens.{latest}
 use Rattle.invalidate.specs.Invalidation.{is_invalid}
-use Rattle.gui_core.specs.Jobs.{picture_after_job}
-use Rattle.gui_core.specs.Drawing.{Surfaces}
+use Rattle.gui_core.specs.Jobs.{windows_after_job, picture_after_job}
+use Rattle.gui_core.specs.Panes.{IsBegun, with_drawn}
 use Rattle.gui_core.specs.Machines.{Machine}
 use Rattle.gui_core.proofs.JobLemmas.{job_shows}
 use Rattle.gui_core.proofs.KeptLemmas.{kept-job}
+use Rattle.gui_core.proofs.TurnLemmas.{latest-draw}
 use Rattle.gui_core.specs.contracts.engine.Engine.{the_view}
 use Rattle.gui_core.proofs.engine.Engine.do_job.Goals as goal
 
--- the core as it was
+-- the core as it was, and what the job draws
 abbrev before : goal.After-make_valid → Machine
 before c = the_view c.self.inside
 
-shown_is : (c : goal.After-make_valid) → c.paint.new.self.shown ≡ picture_after_job (before c).setup c.self.inside.windows.windows c.self.inside.surfaces.shown
-shown_is c =
-    job_shows (before c).setup c.self.inside.windows.windows c.stack.result.now c.args.which c.self.inside.surfaces.shown c.paint.new.self.shown
-    (subst (λ (k : Machine). position is_invalid k.state.windows ≡ Some c.args.which) (sym c.self.view_is) c.requires)
-    c.stack.ensures c.self.invariant.width c.self.invariant.height (ap (λ (s : Surfaces). s.shown) c.paint.ensures)
+abbrev painted : goal.After-make_valid → Picture
+painted c = picture_after_job (before c).setup c.self.inside.windows.windows (latest c.self.inside.surfaces.screen)
 
-devices_are : (c : goal.After-make_valid) → c.paint.new.self.devices ≡ c.self.inside.surfaces.devices
-devices_are c = ap (λ (s : Surfaces). s.devices) c.paint.ensures
+panes_are : (c : goal.After-make_valid) → c.paint.new.self ≡ with_drawn c.self.inside.surfaces (painted c)
+panes_are c =
+    c.paint.ensures
+    ∙ ap (with_drawn c.self.inside.surfaces)
+    (job_shows (before c).setup c.self.inside.windows.windows c.stack.result.now c.args.which c.self.inside.surfaces.width c.self.inside.surfaces.height (latest c.self.inside.surfaces.screen) _
+    (subst (λ (k : Machine). position is_invalid k.state.windows ≡ Some c.args.which) (sym c.self.view_is) c.requires.first)
+    c.stack.ensures c.self.invariant.width c.self.invariant.height refl)
+
+begun : (c : goal.After-make_valid) → IsBegun (before c).buffers (before c).state.screen
+begun c = subst (λ (k : Machine). IsBegun k.buffers k.state.screen) (sym c.self.view_is) c.requires.begun
 
 pub invariant_of-self : goal.invariant_of-self
-invariant_of-self c = rw (c.make_valid.ensures, shown_is c, devices_are c) (kept-job (before c) c.self.invariant)
+invariant_of-self c = rw (c.make_valid.ensures, panes_are c) (kept-job (before c) (painted c) c.self.invariant (begun c))
 
 pub returns : goal.returns
-returns c = rw (c.make_valid.ensures, shown_is c, devices_are c, ← c.self.view_is) refl
+returns c =
+    rw (c.make_valid.ensures, panes_are c, ← c.self.view_is) (record {
+      rest = refl;
+      desk =
+          ap (λ (p : Picture). record { windows = windows_after_job (before c).state.windows; handles = (before c).state.handles; picture = p; contexts = (before c).state.contexts; devices = (before c).state.devices })
+          (latest-draw (before c).buffers (painted c) (before c).state.screen c.self.invariant.screen);
+      screen = refl;
+    })
 
 pub paint-requires-clause-single : goal.paint-requires-clause-single
 paint-requires-clause-single c = rw c.stack.ensures c.self.invariant.scene.stack.single

@@ -1,9 +1,12 @@
 use Rattle.std.proofs.Common.{sym, ◌∙◌}
-use Rattle.gui_core.proofs.JobLemmas.{some_invalid, none_invalid_any}
+use Rattle.gui_core.proofs.CallLemmas.{exec1_idle, exec1_makes, exec1_waits}
 use Rattle.gui_core.proofs.engine.Engine.exec1.Goals as goal
 
-pub returns-in-Some-clause-jobs : goal.returns-in-Some-clause-jobs
-returns-in-Some-clause-jobs c = some_invalid c.args.self.now.state.windows c.in-Some.which (sym c.next_job.ensures.next ∙ c.in-Some.is)
+pub returns-in_default : goal.returns-in_default
+returns-in_default c = record { by = λ actor. exec1_idle c.args.self.now actor (sym c.next_job.ensures.next ∙ c.in_default.is) }
 
-pub returns-in-None-clause-jobs : goal.returns-in-None-clause-jobs
-returns-in-None-clause-jobs c = none_invalid_any c.args.self.now.state.windows (sym c.next_job.ensures.next ∙ c.in-None.is)
+pub returns-in-Err : goal.returns-in-Err
+returns-in-Err c = record { by = λ actor. exec1_waits c.args.self.now c.begin_own.new.self actor c.in-Some.which c.in-Err.refusal c.next_job.ensures.buffers (sym c.next_job.ensures.next ∙ c.in-Some.is) c.in-Err.ensures.screen c.in-Err.ensures.rest }
+
+pub returns : goal.returns
+returns c = record { by = λ actor. exec1_makes c.args.self.now c.begin_own.new.self c.do_job.new.self c.end_own.new.self actor c.in-Some.which c.in-Ok.own c.next_job.ensures.buffers (sym c.next_job.ensures.next ∙ c.in-Some.is) c.in-Ok.ensures.screen c.in-Ok.ensures.rest c.do_job.ensures c.end_own.ensures }

@@ -1,8 +1,8 @@
-use Rattle.std.proofs.Common.{refl}
+use Rattle.std.proofs.Common.{◌<◌, refl, sym, subst}
 use Rattle.gui_core.specs.Drawing.{Draw}
-use Rattle.gui_core.proofs.EffectLemmas.{draws_it}
+use Rattle.gui_core.specs.Machines.{Machine}
 use Rattle.gui_core.proofs.DeviceLemmas.{few_handles}
-use Rattle.gui_core.proofs.CallLemmas.{drawn, work_kept, work_replied}
+use Rattle.gui_core.proofs.CallLemmas.{drawn, draws_shape, work_kept, work_replied}
 use Rattle.gui_core.specs.contracts.engine.Engine.{the_view}
 use Rattle.gui_core.specs.Changes.{stroke_call}
 use Rattle.gui_core.proofs.engine.Engine.stroke.Goals as goal
@@ -12,11 +12,11 @@ invariant_of-self c =
     let m = the_view c.self.inside in
     let work = Draw c.args.shape.now in
     let p = drawn m c.get.result.now work c.stack.result.now c.draw.result c.draw.new.self c.self.invariant c.stack.ensures c.draw.ensures in
-    work_kept m c.get.result.now work c.draw.result c.draw.new.self c.self.invariant (few_handles m.setup.assets c.get.result.now work m.state.devices m.made refl c.self.invariant.devices) p
+    work_kept m c.get.result.now work c.draw.result c.draw.new.self c.self.invariant (subst (λ (k : Machine). k.state.screen.switches < k.made) (sym c.self.view_is) c.requires.room) (few_handles m.setup.assets c.get.result.now work m.state.devices m.made refl c.self.invariant.devices) p
 
 pub returns : goal.returns
 returns c =
     let m = the_view c.self.inside in
     let work = Draw c.args.shape.now in
     let p = drawn m c.get.result.now work c.stack.result.now c.draw.result c.draw.new.self c.self.invariant c.stack.ensures c.draw.ensures in
-    work_replied _ m c.args.task c.get.result.now (stroke_call c.args.shape.now) work c.draw.result c.draw.new.self _ (draws_it c.args.shape.now) refl c.get.ensures.context c.self.view_is c.answered.ensures p
+    work_replied _ m c.args.task c.get.result.now (stroke_call c.args.shape.now) work c.draw.result c.draw.new.self _ c.self.invariant (draws_shape c.args.shape.now) refl c.get.ensures.context c.self.view_is c.answered.ensures p

@@ -1,17 +1,22 @@
-use Rattle.std.proofs.Common.{false, sym, ap, ◌∙◌}
+use Rattle.std.proofs.Common.{sym, ap, ◌∙◌}
 use Rattle.std.proofs.lemmas.Bool.{false≢true}
 use Rattle.gui_core.specs.Histories.{is_full}
 use Rattle.gui_core.specs.contracts.gui.Gui.{the_view}
 use Rattle.gui_core.proofs.WantLemmas.{counted_is_entered, entered_parts}
-use Rattle.gui_core.proofs.HistoryLemmas.{recorded-more, has_room}
+use Rattle.gui_core.proofs.HistoryLemmas.{recorded-more, has_room, fits_call}
 use Rattle.gui_core.proofs.gui.Gui.apply.Goals as goal
+
+pub enter-requires : goal.enter-requires
+enter-requires c =
+    let free = has_room (the_view c.self.inside) (ap is_full c.self.view_is ∙ sym c.is_full.ensures ∙ c.if-is_full.false) in
+    fits_call c.self.inside.engine c.self.inside.history.items _ c.self.invariant free
 
 pub invariant_of-self : goal.invariant_of-self
 invariant_of-self c =
     let m = c.self.inside.engine in
     let history = c.self.inside.history.items in
     let free = has_room (the_view c.self.inside) (ap is_full c.self.view_is ∙ sym c.is_full.ensures ∙ c.if-is_full.false) in
-    rw (c.push_reserved.ensures.items, c.push_reserved.ensures.capacity, c.copy.ensures)
+    rw (c.enter.ensures.items, c.enter.ensures.capacity, c.copy.ensures)
     (recorded-more m c.apply.new.self history _ c.args.actor c.args.call.now c.in-Ok.reply c.self.invariant free c.requires.fits c.in-Ok.ensures.made)
 
 pub returns-in-Ok-clause-full : goal.returns-in-Ok-clause-full

@@ -1,7 +1,7 @@
 use Rattle.std.proofs.Common.{sym, ap, ◌∙◌}
 use Rattle.std.specs.Prelude.{is_some}
 use Rattle.gui_core.specs.Devices.{picture_on}
-use Rattle.gui_core.specs.Drawing.{Surfaces}
+use Rattle.gui_core.specs.Panes.{Panes}
 use Rattle.gui_core.proofs.DeviceLemmas.{lent_is_some, is_some-seen}
 use Rattle.gui_core.proofs.surfaces.Surfaces.has_device.Goals as goal
 
@@ -11,4 +11,4 @@ returns c =
     ∙ lent_is_some c.get.result
     ∙ ap is_some c.get.ensures.frame
     ∙ sym (is_some-seen c.self.inside.devices c.args.device)
-    ∙ ap (λ (s : Surfaces). is_some (picture_on s.devices.live c.args.device)) c.self.view_is
+    ∙ ap (λ (s : Panes). is_some (picture_on s.devices.live c.args.device)) c.self.view_is

@@ -2,7 +2,7 @@ use Rattle.std.proofs.Common.{List, sym, ap, ◌∙◌}
 use Rattle.scene.specs.declared.win.Win.{Win}
 use Rattle.win_tree.specs.Trees.{Scene}
 use Rattle.gui_core.specs.Changes.{call_for, list_after}
-use Rattle.gui_core.specs.States.{refusal_of, objections}
+use Rattle.gui_core.specs.Desks.{refusal_of, objections}
 use Rattle.gui_core.proofs.FollowLemmas.{changed_is}
 use Rattle.gui_core.proofs.windows.Windows.change.Goals as goal
 

@@ -7,7 +7,7 @@ use Rattle.scene.specs.Families.{new_window, on_top_of}
 use Rattle.win_tree.specs.Trees.{Scene}
 use Rattle.calls.specs.declared.call.Call.{Call}
 use Rattle.calls.specs.declared.call.Call.TheVariants.{Create}
-use Rattle.gui_core.specs.States.{refusal_of, objections}
+use Rattle.gui_core.specs.Desks.{refusal_of, objections}
 use Rattle.gui_core.proofs.SceneLemmas.{unknown_handle}
 use Rattle.gui_core.proofs.EffectLemmas.{may_be_made, tree_makes}
 use Rattle.gui_core.proofs.FollowLemmas.{created_is}
