@@ -1,6 +1,6 @@
-//! Makes calls on twelve windows of a screen of 320 by 240 points, paints what they change and shows
-//! it, or begins and ends alone, so that it can be timed. The words are what is done, with how many
-//! buffers, and how often.
+//! Makes calls on twelve windows of a screen of 320 by 240 points, paints what they change and
+//! shows it, or begins and ends alone, so that it can be timed. The words are what is done, with
+//! how many buffers, and how often.
 #![tactic(auto)]
 
 use calls::{Call, Config, Reply};
@@ -132,8 +132,8 @@ fn set_value(h: u32, value: i16) -> Call {
     Call::SetValue { h, index: 0, value }
 }
 
-/// Does what the name says so often, and tells how many jobs that took. `None` where memory runs out
-/// or it is no name.
+/// Does what the name says so often, and tells how many jobs that took. `None` where memory runs
+/// out or it is no name.
 fn measure(alloc: Global, name: &str, buffers: u8, rounds: u32) -> Option<u32> {
     let mut session = Session::open(alloc, buffers)?;
     session.fill(alloc);
