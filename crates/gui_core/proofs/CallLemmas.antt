@@ -19,36 +19,34 @@ use Rattle.calls.specs.declared.call.Call.{Call}
 use Rattle.calls.specs.declared.reply.Reply.{Reply}
 use Rattle.calls.specs.declared.reply.Reply.TheVariants.{Done, Handle, Jobs, Device, Refused}
 use Rattle.calls.specs.declared.reply.Refusal.{Refusal}
-use Rattle.gui_core.specs.Setups.{Setup, classes_with_desktop, assets_with_desktop, setup_for, screen_of, looks_of}
+use Rattle.desk.specs.Setups.{Setup, classes_with_desktop, assets_with_desktop, setup_for, screen_of, looks_of}
 use Rattle.scene.specs.Looks.{screen_with, looks_of as looks_on}
 use Rattle.scene.specs.Painting.{Looks}
 use Rattle.scene.specs.Stacks.{has_ancestors, IsShallow}
 use Rattle.win_tree.specs.Trees.{Scene}
-use Rattle.gui_core.specs.Scenes.{IsScene}
-use Rattle.gui_core.specs.Windows.{after_change}
-use Rattle.gui_core.specs.Refusals.{Performs, Creates, Alters, Draws, answered}
-use Rattle.gui_core.specs.Devices.{no_device_pictures}
-use Rattle.gui_core.specs.Drawing.{Work, Draw, Copy, Surfaces, is_on_screen, devices_after, surfaces_after, reply_to}
-use Rattle.gui_core.specs.Turns.{showing, after_turn, none_free}
-use Rattle.gui_core.specs.Panes.{Panes, surfaces_of, panes_after, pane_objections, begun, ended, Begins}
+use Rattle.desk.specs.Scenes.{IsScene}
+use Rattle.desk.specs.Windows.{after_change}
+use Rattle.window_list.specs.Refusals.{Performs, Creates}
+use Rattle.surfaces.specs.Refusals.{Alters, Draws}
+use Rattle.gui_core.specs.Machines.{answered, Machine, IsConfig, IsKept, Takes, Makes, Paints, Counts, machine_for}
+use Rattle.desk.specs.Devices.{no_device_pictures}
+use Rattle.desk.specs.Drawing.{Work, Draw, Copy, Surfaces, is_on_screen, devices_after, surfaces_after, reply_to}
+use Rattle.surfaces.specs.Turns.{showing, after_turn, none_free, IsScreen}
+use Rattle.surfaces.specs.Panes.{Panes, surfaces_of, panes_after, pane_objections, begun, ended, Begins}
 use Rattle.multibuf.specs.Screens.{Screen, latest, after_draw}
 use Rattle.gui_core.proofs.KeptLemmas.{kept-with, kept-windows}
-use Rattle.gui_core.proofs.SceneLemmas.{scene_after, scene_created}
-use Rattle.gui_core.proofs.EffectLemmas.{IsOnWindows, IsWork, may_be_made, is_new}
-use Rattle.gui_core.proofs.TurnLemmas.{screen-showing, screen-turn, owes-turn, turn_is, latest-begun}
-use Rattle.gui_core.specs.Jobs.{jobs_of}
+use Rattle.desk.proofs.CallerLemmas.{scene_after, scene_created, IsOnWindows, IsWork, may_be_made, is_new, no_jobs, jobs-more, none_invalid_any, some_invalid, refused_next}
+use Rattle.surfaces.proofs.CallerLemmas.{screen-showing, screen-turn, owes-turn, turn_is, latest-begun}
+use Rattle.desk.specs.Jobs.{jobs_of}
 use Rattle.invalidate.specs.Invalidation.{is_invalid}
-use Rattle.gui_core.proofs.JobLemmas.{no_jobs, jobs-more, none_invalid_any, some_invalid}
-use Rattle.gui_core.proofs.InkLemmas.{refused_next}
 use Rattle.gui_core.proofs.StateLemmas.{is_turn_call, desk_effect_is, plain_step_of}
 use Rattle.calls.specs.declared.call.Call.TheVariants.{Begin, End, Exec, Exec1, Create, DevCopy}
 use Rattle.strokes.specs.declared.shape.Shape.{Shape}
 use Rattle.strokes.specs.declared.shape.Shape.TheVariants as shape
-use Rattle.gui_core.specs.Changes.{stroke_call}
+use Rattle.desk.specs.Changes.{stroke_call}
 use Rattle.scene.specs.Families.{new_window, desktop_with, on_top_of}
-use Rattle.gui_core.specs.Desks.{Desk, Step, Objection, opening_desk, is_context_call, objections, desk_objections, refusal_of, unless_refused, with_windows, after_job, after_jobs, effect, desk_effect, context_objections, context_after, is_drawing, is_refused}
+use Rattle.desk.specs.Desks.{Desk, Step, Objection, opening_desk, is_context_call, objections, desk_objections, refusal_of, unless_refused, with_windows, after_job, after_jobs, effect, desk_effect, context_objections, context_after, is_drawing, is_refused}
 use Rattle.gui_core.specs.States.{State, desk_of, with_screen, buffer_objections, objections_to, on_desk, effect_of, step_of_call, step}
-use Rattle.gui_core.specs.Machines.{Machine, IsConfig, IsScreen, IsKept, Takes, Makes, Paints, Counts, machine_for}
 
 -- ---- one call
 

@@ -14,11 +14,11 @@ use Rattle.calls.specs.declared.entry.Entry.{Entry}
 use Rattle.calls.specs.declared.entry.Entry.TheVariants as entry
 use Rattle.calls.specs.declared.reply.Refusal.{Refusal}
 use Rattle.invalidate.specs.Invalidation.{is_invalid}
-use Rattle.gui_core.specs.Setups.{Setup}
-use Rattle.gui_core.specs.Jobs.{jobs_of}
-use Rattle.gui_core.specs.Devices.{DevicePicture, DevicePictures, picture_on, with_new_device, without_picture, with_picture, with_drawing}
-use Rattle.gui_core.specs.Drawing.{Work, Draw, Copy, Make, Discard, work_of, devices_after}
-use Rattle.gui_core.specs.Desks.{Desk, Step, is_context_call, refusal_of, unless_refused, after_job, after_jobs, effect, other_effect, desk_effect}
+use Rattle.desk.specs.Setups.{Setup}
+use Rattle.desk.specs.Jobs.{jobs_of}
+use Rattle.desk.specs.Devices.{DevicePicture, DevicePictures, picture_on, with_new_device, without_picture, with_picture, with_drawing}
+use Rattle.desk.specs.Drawing.{Work, Draw, Copy, Make, Discard, work_of, devices_after}
+use Rattle.desk.specs.Desks.{Desk, Step, is_context_call, refusal_of, unless_refused, after_job, after_jobs, effect, other_effect, desk_effect}
 use Rattle.gui_core.specs.States.{State, desk_of, objections_to, effect_of, step, state_after}
 
 -- the handle was given out, and finds no device

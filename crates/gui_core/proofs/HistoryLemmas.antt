@@ -12,12 +12,12 @@ use Rattle.calls.specs.declared.call.Call.{Call}
 use Rattle.calls.specs.declared.entry.Entry.{Entry}
 use Rattle.calls.specs.declared.entry.Entry.TheVariants as entry
 use Rattle.calls.specs.declared.reply.Reply.{Reply}
-use Rattle.gui_core.specs.Setups.{Setup}
-use Rattle.gui_core.specs.Desks.{Step, is_refused, is_want_of_memory}
-use Rattle.gui_core.specs.Turns.{waits as waits_for, marked}
+use Rattle.desk.specs.Setups.{Setup}
+use Rattle.desk.specs.Desks.{Step, is_refused, is_want_of_memory}
+use Rattle.surfaces.specs.Turns.{waits as waits_for, marked, waiting_count}
 use Rattle.gui_core.specs.States.{State, opening, step, state_after}
 use Rattle.gui_core.specs.Machines.{Machine, Counts}
-use Rattle.gui_core.specs.Histories.{Chronicle, state_of, refused_in, refusals, is_call_entry, calls_in, says_full, is_entered, is_full, FitsItsActor, MarksStand, Answers, waiting_count, IsRecorded}
+use Rattle.gui_core.specs.Histories.{Chronicle, state_of, refused_in, refusals, is_call_entry, calls_in, says_full, is_entered, is_full, FitsItsActor, MarksStand, Answers, IsRecorded}
 use Rattle.gui_core.proofs.StateLemmas.{owes-call}
 
 -- ---- entries after others

@@ -7,22 +7,20 @@ use Rattle.std.proofs.lemmas.List.{append-nil, take_all, drop_all}
 use Rattle.std.proofs.lemmas.List.Sums.{count_by-le-length}
 use Rattle.frame.specs.Pictures.{Picture}
 use Rattle.context.specs.Contexts.{Owned}
-use Rattle.gui_core.specs.Devices.{DevicePictures}
+use Rattle.desk.specs.Devices.{DevicePictures}
 use Rattle.scene.specs.declared.win.Win.{Win}
-use Rattle.scene.proofs.CallerLemmas.{length-same}
-use Rattle.gui_core.specs.Setups.{Setup}
-use Rattle.gui_core.specs.Scenes.{IsScene}
+use Rattle.desk.specs.Setups.{Setup}
+use Rattle.desk.specs.Scenes.{IsScene}
 use Rattle.invalidate.specs.Invalidation.{is_invalid}
-use Rattle.gui_core.specs.Jobs.{windows_after_job, jobs_of}
-use Rattle.gui_core.specs.Desks.{Desk, after_job, after_jobs}
-use Rattle.gui_core.specs.Machines.{Machine, IsScreen, Paints, IsKept}
-use Rattle.gui_core.specs.Panes.{IsBegun}
+use Rattle.desk.specs.Jobs.{windows_after_job, jobs_of}
+use Rattle.desk.specs.Desks.{Desk, after_job, after_jobs}
+use Rattle.gui_core.specs.Machines.{Machine, Paints, IsKept}
+use Rattle.surfaces.specs.Turns.{IsScreen}
+use Rattle.surfaces.specs.Panes.{IsBegun}
 use Rattle.gui_core.specs.States.{desk_of}
 use Rattle.multibuf.specs.Screens.{Screen, after_draw}
-use Rattle.gui_core.proofs.TurnLemmas.{screen-draw, drawn_twice}
-use Rattle.gui_core.proofs.IgnoreLemmas.{bare-job}
-use Rattle.gui_core.proofs.JobLemmas.{jobs-more, no_jobs}
-use Rattle.gui_core.proofs.SceneLemmas.{scene_job}
+use Rattle.surfaces.proofs.CallerLemmas.{screen-draw, drawn_twice}
+use Rattle.desk.proofs.CallerLemmas.{jobs-more, no_jobs, scene_job}
 
 -- ---- a job
 
@@ -79,9 +77,6 @@ pub refill-whole : {X : Type 0} (xs ws : List X) → length ws ≡ length xs →
 refill-whole xs ws e =
     let rest = drop_all (length ws) xs (omega arith) in
     rw rest (ap (take (length xs)) (append-nil ws) ∙ take_all (length xs) ws (omega arith))
-
-pub length-windows_after_job : (ws : List Win) → length (windows_after_job ws) ≡ length ws
-length-windows_after_job ws = length-same ws (windows_after_job ws) (bare-job ws)
 
 pub jobs-step : (setup : Setup) (s : Desk) (which : ℕ) → position is_invalid s.windows ≡ Some which → jobs_of s.windows ≡ suc (jobs_of (after_job setup s).windows)
 jobs-step setup s which e = jobs-more s.windows which e

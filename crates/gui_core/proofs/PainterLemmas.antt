@@ -1,39 +1,30 @@
 -- After any calls and marks the picture that is drawn on is the painter's outside the damage and the stain.
-use Rattle.std.proofs.Common.{◌≤◌, leb, option_map, ◌≡◌, ℕ, pos, zero, suc, Bool, true, false, cond, eqb, List, [], ◌∷◌, Option, Some, None, refl, sym, ap, subst, ◌∙◌, inl, inr, arith}
+use Rattle.std.proofs.Common.{◌≤◌, leb, option_map, ◌≡◌, ℕ, zero, suc, Bool, true, false, cond, eqb, List, [], ◌∷◌, Option, Some, None, refl, sym, subst, ◌∙◌, inl, inr, arith}
 use Rattle.std.specs.Prelude.{is_some, position}
 use Rattle.std.specs.List.{list_any, AllByRecursion}
-use Rattle.std.specs.Option.{option_map_or}
-use Rattle.std.proofs.lemmas.Bool.{le-leb, cases_Bool, or_parts, or_from, and_right}
+use Rattle.std.proofs.lemmas.Bool.{le-leb, cases_Bool, or_parts}
 use Rattle.gfx_base.specs.declared.point.Point.{Point}
-use Rattle.gfx_base.specs.declared.rect.Rect.{Rect}
-use Rattle.gfx_base.specs.Rects.{point_at}
 use Rattle.scene.specs.declared.win.Win.{Win}
-use Rattle.scene.specs.Painting.{Looks, painted}
-use Rattle.scene.specs.Damage.{some_has, is_invalid_at, is_seen, is_damaged}
 use Rattle.calls.specs.declared.call.Call.{Call}
-use Rattle.calls.specs.declared.call.Call.TheVariants.{Exec, Exec1}
+use Rattle.calls.specs.declared.call.Call.TheVariants.{Exec, Begin, End}
 use Rattle.calls.specs.declared.entry.Entry.{Entry}
 use Rattle.calls.specs.declared.entry.Entry.TheVariants as entry
 use Rattle.calls.specs.declared.reply.Refusal.{Refusal}
-use Rattle.frame.specs.Pictures.{Picture, colour_at}
-use Rattle.frame.proofs.CallerLemmas.{colour_at-picture_of}
-use Rattle.gui_core.specs.Setups.{Setup, looks_of, painter}
+use Rattle.frame.specs.Pictures.{Picture}
+use Rattle.desk.specs.Setups.{Setup, painter}
 use Rattle.invalidate.specs.Invalidation.{is_invalid}
-use Rattle.gui_core.specs.Jobs.{jobs_of}
-use Rattle.gui_core.specs.Desks.{Desk, Step, desk_objections, refusal_of, unless_refused, after_job, after_jobs, desk_effect, is_drawing, is_refused}
-use Rattle.gui_core.specs.Drawing.{Work, Draw, Copy, Make, Discard, work_of, may_ink}
-use Rattle.gui_core.specs.Stains.{Stain, no_stain, without_patch, stain_after_jobs, left_stained, with_points, stain_after_call, stained, stain_after, draws}
-use Rattle.gui_core.specs.Promises.{IsRightOutside, IsPainterOutside, NoneInvalid}
-use Rattle.gui_core.proofs.JobLemmas.{none_invalid, no_jobs}
+use Rattle.desk.specs.Jobs.{jobs_of}
+use Rattle.desk.specs.Desks.{Desk, Step, desk_objections, refusal_of, unless_refused, after_job, after_jobs, desk_effect, is_drawing, is_refused}
+use Rattle.desk.specs.Drawing.{work_of}
+use Rattle.desk.specs.Stains.{Stain, no_stain, left_stained, stain_after_call}
+use Rattle.gui_core.specs.Stains.{stained, stain_after, draws}
+use Rattle.desk.specs.Promises.{IsRightOutside, IsPainterOutside, NoneInvalid}
+use Rattle.desk.proofs.CallerLemmas.{none_invalid, no_jobs, Holds, left_clean, points_clean, right_outside, shown_is_painter, unless_clean, opening_holds, any_effect_holds}
 use Rattle.gui_core.proofs.KeptLemmas.{jobs-step}
-use Rattle.gui_core.proofs.PictureLemmas.{picture_of-same}
 use Rattle.multibuf.specs.Screens.{Screen, latest, number_of_switch}
-use Rattle.calls.specs.declared.call.Call.TheVariants.{Begin, End}
-use Rattle.gui_core.specs.Turns.{after_turn}
+use Rattle.surfaces.specs.Turns.{after_turn, IsScreen}
 use Rattle.gui_core.specs.States.{State, desk_of, opening, buffer_objections, objections_to, screen_after, effect_of, step, state_after}
-use Rattle.gui_core.specs.Machines.{IsScreen}
 use Rattle.gui_core.specs.Promises.{IsQuiet}
-use Rattle.gui_core.proofs.DamageLemmas.{Holds, opening_holds, any_effect_holds}
 use Rattle.gui_core.proofs.StateLemmas.{is_turn_call, goes, stays_begun, stays_ended, stays_marked, none_held, screen-step, screen-opening}
 
 -- ---- each step keeps what holds
@@ -80,29 +71,6 @@ damage_covers setup es = let is = all_hold setup es in is.holds.covers
 
 -- ---- what isn't stained stays clean until a task draws there
 
-job_cleans : (setup : Setup) (ws : List Win) (stain : Stain) (p : Point) → stain p ≡ false → without_patch setup ws stain p ≡ false
-job_cleans setup ws stain p clean = rw clean refl
-
-jobs_clean : (setup : Setup) (n : ℕ) (s : Desk) (stain : Stain) (p : Point) → stain p ≡ false → stain_after_jobs setup n s stain p ≡ false
-jobs_clean setup zero s stain p clean = clean
-jobs_clean setup (suc n) s stain p clean = jobs_clean setup n (after_job setup s) (without_patch setup s.windows stain) p (job_cleans setup s.windows stain p clean)
-
-left_clean : (setup : Setup) (s : Desk) (call : Call) (stain : Stain) (p : Point) → stain p ≡ false → left_stained setup s call stain p ≡ false
-left_clean setup s Exec stain p clean = jobs_clean setup (jobs_of s.windows) s stain p clean
-left_clean setup s Exec1 stain p clean = jobs_clean setup (cond (list_any is_invalid s.windows) 1 0) s stain p clean
-left_clean setup s call stain p clean = clean
-
-unless_clean : (refused : Bool) (stain after : Stain) (p : Point) → stain p ≡ false → after p ≡ false → (cond refused stain after) p ≡ false
-unless_clean true stain after p clean is_after = clean
-unless_clean false stain after p clean is_after = is_after
-
-points_clean : (setup : Setup) (s : Desk) (task : ℕ) (o : Option Work) (stain : Stain) (p : Point) → option_map_or may_ink o false ≡ false → stain p ≡ false → with_points setup s task o stain p ≡ false
-points_clean setup s task None stain p none clean = clean
-points_clean setup s task (Some (Draw shape)) stain p none clean = absurd cc
-points_clean setup s task (Some (Copy device x y)) stain p none clean = absurd cc
-points_clean setup s task (Some (Make w h)) stain p none clean = rw clean refl
-points_clean setup s task (Some (Discard device)) stain p none clean = rw clean refl
-
 pub stays_clean : (setup : Setup) (s : State) (e : Entry) (stain : Stain) (p : Point) → draws e ≡ false → stain p ≡ false → stained setup s e stain p ≡ false
 stays_clean setup s (entry.Call actor call) stain p none clean =
     unless_clean (is_some (refusal_of (objections_to setup s actor call))) stain (stain_after_call setup (desk_of s) actor call stain) p clean
@@ -116,30 +84,6 @@ all_clean setup s (e ∷ es) stain p none clean =
     all_clean setup (step setup s e).state es (stained setup s e stain) p parts.1 (stays_clean setup s e stain p parts.0 clean)
 
 -- ---- where no window is invalid
-
-not_invalid_at : (o : Option Rect) (p : Point) → is_some o ≡ false → some_has o p ≡ false
-not_invalid_at None p none = refl
-not_invalid_at (Some r) p none = absurd cc
-
-valid_is_no_damage : (looks : Looks) (ws : List Win) (p : Point) → NoneInvalid ws → is_damaged looks ws p ≡ false
-valid_is_no_damage looks [] p none = refl
-valid_is_no_damage looks (w ∷ ws) p none =
-    let parts = or_parts (is_invalid w) (list_any is_invalid ws) none in
-    or_from _ _ (and_right (is_seen looks w ws p) (is_invalid_at p w) (not_invalid_at w.invalid p parts.0)) (valid_is_no_damage looks ws p parts.1)
-
-right_outside : (setup : Setup) (s : Desk) (stain : Stain) → Holds setup s stain → NoneInvalid s.windows → IsPainterOutside setup s.windows s.picture stain
-right_outside setup s stain h none x y x_in y_in clean =
-    h.covers x y x_in y_in (valid_is_no_damage (looks_of setup s.windows) s.windows (point_at (pos x) (pos y)) none) clean
-    ∙ sym (colour_at-picture_of setup.config.w setup.config.h (λ u v. painted (looks_of setup s.windows) s.windows (point_at (pos u) (pos v))) x y x_in y_in)
-
-shown_is_painter : (setup : Setup) (s : Desk) (stain : Stain) → Holds setup s stain → ((p : Point) → stain p ≡ false) → NoneInvalid s.windows → s.picture ≡ painter setup s.windows
-shown_is_painter setup s stain h clean none =
-    let colours = h.pictured.colours in
-    h.pictured.is
-    ∙ picture_of-same setup.config.w setup.config.h colours (λ x y. painted (looks_of setup s.windows) s.windows (point_at (pos x) (pos y))) (λ x y x_in y_in.
-    sym (colour_at-picture_of setup.config.w setup.config.h colours x y x_in y_in)
-    ∙ ap (λ (shown : Picture). colour_at shown x y) (sym h.pictured.is)
-    ∙ h.covers x y x_in y_in (valid_is_no_damage (looks_of setup s.windows) s.windows (point_at (pos x) (pos y)) none) (clean (point_at (pos x) (pos y))))
 
 -- ---- exec
 

@@ -17,23 +17,20 @@ use Rattle.calls.specs.declared.entry.Entry.TheVariants as entry
 use Rattle.calls.specs.declared.reply.Reply.{Reply}
 use Rattle.calls.specs.declared.reply.Reply.TheVariants.{Done, Refused}
 use Rattle.calls.specs.declared.reply.Refusal.{Refusal}
-use Rattle.gui_core.specs.declared.change.Change.{Change}
-use Rattle.gui_core.specs.declared.change.Change.TheVariants as change
-use Rattle.gui_core.specs.Setups.{Setup, screen_of, painter}
+use Rattle.desk.specs.declared.changes.Change.{Change}
+use Rattle.desk.specs.declared.changes.Change.TheVariants as change
+use Rattle.desk.specs.Setups.{Setup, screen_of, painter}
 use Rattle.invalidate.specs.Invalidation.{is_invalid}
-use Rattle.gui_core.specs.Changes.{list_after}
-use Rattle.gui_core.specs.Jobs.{jobs_of}
-use Rattle.gui_core.specs.Desks.{Desk, Step, Objection, opening_desk, is_context_call, objections, refusal_of, unless_refused, changed, created, after_create, after_job, after_jobs, painted, rect_with, effect, other_effect, desk_effect, desk_step, is_drawing}
+use Rattle.desk.specs.Changes.{list_after}
+use Rattle.desk.specs.Jobs.{jobs_of}
+use Rattle.desk.specs.Desks.{Desk, Step, Objection, opening_desk, is_context_call, objections, refusal_of, unless_refused, changed, created, after_create, after_job, after_jobs, painted, rect_with, effect, other_effect, desk_effect, desk_step, is_drawing}
 use Rattle.gui_core.specs.States.{State, desk_of, opening, objections_to, effect_of, step, state_after}
 use Rattle.gui_core.proofs.StateLemmas.{is_turn_call, plain_step}
-use Rattle.gui_core.specs.Devices.{DevicePictures}
-use Rattle.gui_core.specs.Drawing.{Work, Draw, Copy, Make, Discard, work_of, reply_to}
-use Rattle.gui_core.specs.Windows.{with_memdev}
+use Rattle.desk.specs.Devices.{DevicePictures}
+use Rattle.desk.specs.Drawing.{Work, Draw, Copy, Make, Discard, work_of, reply_to}
+use Rattle.desk.specs.Windows.{with_memdev}
 use Rattle.gui_core.specs.Promises.{is_window_call, changes_windows, window_calls}
-use Rattle.gui_core.proofs.IgnoreLemmas.{bare-job}
-use Rattle.gui_core.proofs.ShapeLemmas.{on_top_of-map}
-use Rattle.gui_core.proofs.MessageLemmas.{changed_both, revalued_at, bare_value, plainly_sent, bare_message}
-use Rattle.gui_core.proofs.BareLemmas.{keeps_bare, bare_after_change, bare_window, bare_rect, listed_bare, objections-bare}
+use Rattle.desk.proofs.CallerLemmas.{bare-job, on_top_of-map, changed_both, revalued_at, bare_value, plainly_sent, bare_message, keeps_bare, bare_after_change, bare_window, bare_rect, listed_bare, objections-bare}
 
 -- ---- a refused call
 

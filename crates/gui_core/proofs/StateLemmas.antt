@@ -11,15 +11,14 @@ use Rattle.calls.specs.declared.entry.Entry.{Entry}
 use Rattle.calls.specs.declared.entry.Entry.TheVariants as entry
 use Rattle.calls.specs.declared.reply.Reply.{Reply}
 use Rattle.calls.specs.declared.reply.Refusal.{Refusal}
-use Rattle.gui_core.specs.Setups.{Setup}
-use Rattle.gui_core.specs.Jobs.{jobs_of}
-use Rattle.gui_core.specs.Drawing.{Work, Draw, Copy, Make, Discard, work_of, is_on_screen}
-use Rattle.gui_core.specs.Desks.{Desk, Step, Objection, is_context_call, desk_objections, refusal_of, unless_refused, after_jobs, effect, other_effect, desk_effect, desk_step, is_drawing}
-use Rattle.gui_core.specs.Turns.{marked, none_free}
+use Rattle.desk.specs.Setups.{Setup}
+use Rattle.desk.specs.Jobs.{jobs_of}
+use Rattle.desk.specs.Drawing.{Work, Draw, Copy, Make, Discard, work_of, is_on_screen}
+use Rattle.desk.specs.Desks.{Desk, Step, Objection, is_context_call, desk_objections, refusal_of, unless_refused, after_jobs, effect, other_effect, desk_effect, desk_step, is_drawing}
+use Rattle.surfaces.specs.Turns.{marked, none_free, IsScreen}
 use Rattle.gui_core.specs.States.{State, desk_of, with_screen, opening, buffer_objections, objections_to, screen_after, on_desk, effect_of, step_of_call, step}
-use Rattle.gui_core.specs.Machines.{IsScreen}
-use Rattle.gui_core.proofs.JobLemmas.{none_any}
-use Rattle.gui_core.proofs.TurnLemmas.{latest-begin, latest-end, latest-marked, latest-turn, screen-showing, screen-begin, screen-end, screen-marked, screen-turn, Owes, owes_nothing, owes-end, owes-turn}
+use Rattle.desk.proofs.CallerLemmas.{none_any}
+use Rattle.surfaces.proofs.CallerLemmas.{latest-begin, latest-end, latest-marked, latest-turn, screen-showing, screen-begin, screen-end, screen-marked, screen-turn, Owes, owes_nothing, owes-end, owes-turn}
 
 -- ---- a call that draws nothing leaves the picture
 

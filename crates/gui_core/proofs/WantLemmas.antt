@@ -15,11 +15,11 @@ use Rattle.calls.specs.declared.reply.Reply.TheVariants.{Done, Handle, Jobs, Dev
 use Rattle.calls.specs.declared.reply.Refusal.{Refusal}
 use Rattle.calls.specs.declared.reply.Refusal.TheVariants.{Waiting}
 use Rattle.multibuf.specs.Screens.{Screen, number_waiting}
-use Rattle.gui_core.specs.Setups.{Setup}
-use Rattle.gui_core.specs.Devices.{DevicePicture}
-use Rattle.gui_core.specs.Drawing.{Work, Draw, Copy, Make, Discard, work_of}
-use Rattle.gui_core.specs.Desks.{Desk, Step, Objection, is_context_call, objections, context_objections, no_ground, work_objections, other_objections, desk_objections, refusal_of, unless_refused, is_drawing, is_want_of_memory}
-use Rattle.gui_core.specs.Turns.{none_free}
+use Rattle.desk.specs.Setups.{Setup}
+use Rattle.desk.specs.Devices.{DevicePicture}
+use Rattle.desk.specs.Drawing.{Work, Draw, Copy, Make, Discard, work_of}
+use Rattle.desk.specs.Desks.{Desk, Step, Objection, is_context_call, objections, context_objections, no_ground, work_objections, other_objections, desk_objections, refusal_of, unless_refused, is_drawing, is_want_of_memory}
+use Rattle.surfaces.specs.Turns.{none_free}
 use Rattle.gui_core.specs.States.{State, desk_of, buffer_objections, objections_to, effect_of, step_of_call, step}
 use Rattle.gui_core.specs.Machines.{Machine, Counts, IsUnmade}
 use Rattle.gui_core.specs.Histories.{says_full, is_entered}

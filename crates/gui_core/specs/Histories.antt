@@ -13,10 +13,11 @@ use Rattle.calls.specs.declared.entry.Entry.TheVariants as entry
 use Rattle.calls.specs.declared.reply.Reply.{Reply}
 use Rattle.calls.specs.declared.reply.Reply.TheVariants.{Refused}
 use Rattle.calls.specs.declared.reply.Refusal.TheVariants.{Full}
-use Rattle.gui_core.specs.Setups.{Setup, setup_for}
-use Rattle.gui_core.specs.Desks.{refusal_of, is_refused, is_want_of_memory}
+use Rattle.desk.specs.Setups.{Setup, setup_for}
+use Rattle.desk.specs.Desks.{refusal_of, is_refused, is_want_of_memory}
 use Rattle.gui_core.specs.States.{State, opening, step, state_after, objections_to}
 use Rattle.gui_core.specs.Machines.{Machine, makes_device}
+use Rattle.surfaces.specs.Turns.{waiting_count}
 
 -- what the core was opened with, and all entries so far, in order
 pub record Chronicle : Type 0 where
@@ -117,11 +118,6 @@ abbrev pub ticked : Chronicle → Chronicle
 ticked c = record c { history = c.history ++ mark_of (number_waiting (state_of c).screen) }
 
 -- ---- the machine
-
--- 1 where a switch waits
-abbrev pub waiting_count : Option ℕ → ℕ
-waiting_count None = 0
-waiting_count (Some k) = 1
 
 -- The machine is what the entries come to, they are legal, and there is room for all that may come:
 -- each call asks for at most one switch, of which there is at most one mark.

@@ -1,14 +1,3 @@
-pub mod Setups
-pub mod Windows
-pub mod Changes
-pub mod Scenes
-pub mod Refusals
-pub mod Jobs
-pub mod Devices
-pub mod Drawing
-pub mod Desks
-pub mod Turns
-pub mod Panes
 pub mod States
 pub mod Stains
 pub mod Promises

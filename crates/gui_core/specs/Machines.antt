@@ -1,18 +1,21 @@
 -- The core's state with what it was opened with, and how calls are counted. Of these, contracts of
 -- public functions name `IsConfig` alone.
-use Rattle.std.specs.Prelude.{◌≡◌, ℕ, ◌+◌, ◌≤◌, Bool, true, false, None, if◌then◌else◌, ◌==◌, length, nat_le}
+use Rattle.std.specs.Prelude.{◌≡◌, ℕ, ◌+◌, ◌≤◌, Bool, true, false, None, if◌then◌else◌, ◌==◌, length, Result, Ok, Err}
 use Rattle.paint_ops.specs.Kinds.{Assets}
 use Rattle.paint_ops.specs.Soundness.{IsSound}
-use Rattle.gui_core.specs.Scenes.{IsScene}
-use Rattle.multibuf.specs.Screens.{Screen, after_draw}
+use Rattle.desk.specs.Scenes.{IsScene}
+use Rattle.multibuf.specs.Screens.{after_draw}
 use Rattle.calls.specs.declared.config.Config.{Config}
 use Rattle.calls.specs.declared.call.Call.{Call}
 use Rattle.calls.specs.declared.call.Call.TheVariants.{DevCreate}
 use Rattle.calls.specs.declared.entry.Entry.TheVariants as entry
 use Rattle.calls.specs.declared.reply.Reply.{Reply}
-use Rattle.gui_core.specs.Setups.{Setup, setup_for}
-use Rattle.gui_core.specs.Desks.{Desk, Step, refusal_of, desk_step, is_refused}
+use Rattle.desk.specs.Setups.{Setup, setup_for}
+use Rattle.desk.specs.Desks.{Desk, Step, refusal_of, desk_step, is_refused}
 use Rattle.gui_core.specs.States.{State, desk_of, opening, objections_to, step_of_call, step}
+use Rattle.calls.specs.declared.reply.Reply.TheVariants.{Done, Refused}
+use Rattle.calls.specs.declared.reply.Refusal.{Refusal}
+use Rattle.surfaces.specs.Turns.{IsScreen}
 
 -- what it was opened with, how many buffers there are and their sides, its state, how many calls
 -- were made, and how many of them were refused
@@ -96,12 +99,6 @@ pub record IsUnmade (old : Machine) (actor : ℕ) (call : Call) (new : Machine) 
   pub makes : makes_device call ≡ true
   pub free : refusal_of (objections_to old.setup old.state actor call) ≡ None
 
--- What is true of the pictures of n buffers: of one alone none waits, and none is drawn on beside
--- it; and none is drawn on where drawing isn't begun.
-pub record IsScreen (n : ℕ) (s : Screen) : Type 0 where
-  pub alone : nat_le 2 n ≡ false → (s.waiting ≡ None) × (s.back ≡ None)
-  pub ended : s.count ≡ 0 → s.back ≡ None
-
 -- What is true of every core.
 pub record IsKept (m : Machine) : Type 0 where
   pub config : IsConfig m.setup.config
@@ -117,3 +114,8 @@ pub record IsKept (m : Machine) : Type 0 where
   pub switches : m.state.screen.switches ≤ m.made
   pub made : m.made ≤ m.setup.config.calls
   pub refused : m.refused ≤ m.made
+
+-- the reply to a call that gives nothing
+abbrev pub answered : Result (Unit {0}) Refusal → Reply
+answered (Ok done) = Done
+answered (Err refusal) = Refused refusal

@@ -1,41 +1,13 @@
--- What holds of the picture that is drawn on after any calls.
-use Rattle.std.specs.Prelude.{◌≡◌, ◌≢◌, ℕ, ◌<◌, ◌≤◌, Bool, true, false, pos, List, None, filter}
-use Rattle.std.specs.List.{list_any}
-use Rattle.gfx_base.specs.Rects.{point_at}
-use Rattle.frame.specs.Pictures.{Picture, colour_at}
-use Rattle.scene.specs.declared.win.Win.{Win}
-use Rattle.scene.specs.Painting.{painted}
-use Rattle.scene.specs.Damage.{is_damaged}
+-- What holds of the state after any calls and marks.
+use Rattle.std.specs.Prelude.{◌≡◌, ◌≢◌, ℕ, ◌≤◌, Bool, true, false, List, None, filter}
 use Rattle.calls.specs.declared.call.Call.{Call}
 use Rattle.calls.specs.declared.call.Call.TheVariants.{Begin, End, Exec, Exec1, Scan, Select, Colour, BkColour, TextMode, Font, Save, Restore, Fill, Frame, Line, Bitmap, Text, DevCreate, DevDelete, DevSelect, DevCopy}
 use Rattle.calls.specs.declared.entry.Entry.{Entry}
 use Rattle.calls.specs.declared.entry.Entry.TheVariants as entry
-use Rattle.gui_core.specs.Setups.{Setup, looks_of, painter}
-use Rattle.invalidate.specs.Invalidation.{is_invalid}
 use Rattle.multibuf.specs.Screens.{number_waiting}
-use Rattle.gui_core.specs.Desks.{Desk, is_context_call}
+use Rattle.desk.specs.Desks.{is_context_call}
 use Rattle.gui_core.specs.States.{State}
-use Rattle.gui_core.specs.Stains.{Stain}
-
--- at each point of the screen outside the damage and the stain the picture is the painter's
-abbrev pub IsRightOutside : Setup → Desk → Stain → Type 0
-IsRightOutside setup s stain =
-    let looks = looks_of setup s.windows in
-    (x y : ℕ) → x < setup.config.w → y < setup.config.h
-    → is_damaged looks s.windows (point_at (pos x) (pos y)) ≡ false
-    → stain (point_at (pos x) (pos y)) ≡ false
-    → colour_at s.picture x y ≡ painted looks s.windows (point_at (pos x) (pos y))
-
--- at each point of the screen outside the stain that picture is the painter's of the windows
-abbrev pub IsPainterOutside : Setup → List Win → Picture → Stain → Type 0
-IsPainterOutside setup ws p stain =
-    (x y : ℕ) → x < setup.config.w → y < setup.config.h
-    → stain (point_at (pos x) (pos y)) ≡ false
-    → colour_at p x y ≡ colour_at (painter setup ws) x y
-
--- no window is invalid
-abbrev pub NoneInvalid : List Win → Type 0
-NoneInvalid ws = list_any is_invalid ws ≡ false
+use Rattle.desk.specs.Promises.{NoneInvalid}
 
 -- no window is invalid, no begin is open, and no switch waits
 pub record IsQuiet (s : State) : Type 0 where

@@ -1,64 +1,14 @@
--- The points that tasks drew on directly and that no job has painted since.
-use Rattle.std.specs.Prelude.{ℕ, zero, suc, Bool, false, ◌&&◌, ◌||◌, not, if◌then◌else◌, List, [], ◌∷◌, Option, Some, None, position, is_some}
-use Rattle.std.specs.List.{list_any}
+-- The points that tasks drew on directly and that no job has painted since, after the entries of a
+-- history.
+use Rattle.std.specs.Prelude.{Bool, false, if◌then◌else◌, List, [], ◌∷◌, is_some}
 use Rattle.std.specs.Option.{option_map_or}
-use Rattle.gfx_base.specs.declared.point.Point.{Point}
-use Rattle.context.specs.Contexts.{owned_by}
-use Rattle.scene.specs.declared.win.Win.{Win}
-use Rattle.scene.specs.Damage.{in_patch_at}
-use Rattle.calls.specs.declared.call.Call.{Call}
-use Rattle.calls.specs.declared.call.Call.TheVariants.{Exec, Exec1}
 use Rattle.calls.specs.declared.entry.Entry.{Entry}
 use Rattle.calls.specs.declared.entry.Entry.TheVariants as entry
-use Rattle.invalidate.specs.Invalidation.{is_invalid}
-use Rattle.gui_core.specs.Setups.{Setup, looks_of}
-use Rattle.gui_core.specs.Jobs.{jobs_of}
-use Rattle.gui_core.specs.Drawing.{Work, work_of, ink_of, ink_puts, may_ink}
-use Rattle.gui_core.specs.Desks.{Desk, after_job, refusal_of}
+use Rattle.desk.specs.Setups.{Setup}
+use Rattle.desk.specs.Drawing.{work_of, may_ink}
+use Rattle.desk.specs.Desks.{refusal_of}
 use Rattle.gui_core.specs.States.{State, desk_of, objections_to, step}
-
--- which points are in it
-abbrev pub Stain : Type 0
-Stain = Point → Bool
-
-abbrev pub no_stain : Stain
-no_stain = λ p. false
-
--- whether the next job paints the point, if there is one
-abbrev pub job_paints : Setup → List Win → Stain
-job_paints setup ws =
-    λ p. option_map_or (λ which. in_patch_at (looks_of setup ws) ws which p)
-    (position is_invalid ws) false
-
--- a job takes its patch out of the stain
-abbrev pub without_patch : Setup → List Win → Stain → Stain
-without_patch setup ws stain = λ p. stain p && not (job_paints setup ws p)
-
--- so do several jobs
-abbrev pub stain_after_jobs : Setup → ℕ → Desk → Stain → Stain
-stain_after_jobs setup zero s stain = stain
-stain_after_jobs setup (suc n) s stain =
-    stain_after_jobs setup n (after_job setup s) (without_patch setup s.windows stain)
-
--- what a call's jobs leave of the stain
-abbrev pub left_stained : Setup → Desk → Call → Stain → Stain
-left_stained setup s Exec stain = stain_after_jobs setup (jobs_of s.windows) s stain
-left_stained setup s Exec1 stain =
-    stain_after_jobs setup (if list_any is_invalid s.windows then 1 else 0) s stain
-left_stained setup s call stain = stain
-
--- what a task draws adds its points
-abbrev pub with_points : Setup → Desk → ℕ → Option Work → Stain → Stain
-with_points setup s task None stain = stain
-with_points setup s task (Some work) stain =
-    let c = (owned_by s.contexts task).context in
-    let looks = looks_of setup s.windows in
-    λ p. stain p || ink_puts looks s.windows c (ink_of setup.assets s.devices c work) p
-
--- the stain after a call that isn't refused
-abbrev pub stain_after_call : Setup → Desk → ℕ → Call → Stain → Stain
-stain_after_call setup s task call stain =
-    with_points setup s task (work_of call) (left_stained setup s call stain)
+use Rattle.desk.specs.Stains.{Stain, stain_after_call}
 
 -- the stain after an entry; a refused call and a mark leave it
 abbrev pub stained : Setup → State → Entry → Stain → Stain

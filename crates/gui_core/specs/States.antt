@@ -8,10 +8,10 @@ use Rattle.calls.specs.declared.call.Call.TheVariants.{Begin, End}
 use Rattle.calls.specs.declared.entry.Entry.{Entry}
 use Rattle.calls.specs.declared.entry.Entry.TheVariants as entry
 use Rattle.calls.specs.declared.reply.Reply.TheVariants.{Done}
-use Rattle.gui_core.specs.Setups.{Setup}
-use Rattle.gui_core.specs.Devices.{DevicePictures}
-use Rattle.gui_core.specs.Desks.{Desk, opening_desk, Step, Objection, desk_objections, refusal_of, unless_refused, desk_effect, is_drawing}
-use Rattle.gui_core.specs.Turns.{showing, after_turn, marked, none_free, begin_objections, end_objections}
+use Rattle.desk.specs.Setups.{Setup}
+use Rattle.desk.specs.Devices.{DevicePictures}
+use Rattle.desk.specs.Desks.{Desk, opening_desk, Step, Objection, desk_objections, refusal_of, unless_refused, desk_effect, is_drawing}
+use Rattle.surfaces.specs.Turns.{showing, after_turn, marked, none_free, begin_objections, end_objections}
 
 -- the windows from back to front, how many handles were given out, the pictures of the buffers,
 -- what each task draws with and saved, and the devices

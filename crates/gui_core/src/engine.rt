@@ -3,12 +3,9 @@
 ghost use Rattle.std.specs.Prelude.{◌≡◌, ◌≢◌, ◌+◌, ◌<◌, ◌≤◌, length, IfOk, OnErr};
 ghost use Rattle.paint_ops.specs.Soundness.{IsSound};
 
-use crate::change::Change;
-use crate::contexts::{ContextChange, change_context};
-use crate::surfaces::Surfaces;
-use crate::windows::{NewWindow, Windows};
 use calls::{Call, Config, Refusal, Reply};
 use context::Contexts;
+use desk::{Change, ContextChange};
 use frame::Frame;
 use gfx_base::{Memory, Rect};
 use invalidate::first_invalid;
@@ -17,6 +14,8 @@ use scene::{Win, paint_whole, screen};
 use std::alloc::Global;
 use std::marker::Model;
 use strokes::Shape;
+use surfaces::{Surfaces, change_context};
+use window_list::{NewWindow, Windows};
 
 /// What the calls of the core change, with how many were made and how many of them were refused.
 #[derive(Drop)]
@@ -81,8 +80,8 @@ fn with_desktop(alloc: Global, mut assets: Assets, config: &Config) -> Assets
     assets
 }
 
-ghost use Rattle.gui_core.specs.Setups.{assets_with_desktop};
-ghost use Rattle.gui_core.specs.Refusals.{answered};
+ghost use Rattle.desk.specs.Setups.{assets_with_desktop};
+ghost use Rattle.gui_core.specs.Machines.{answered};
 
 /// How many classes there are, with the desktop's.
 fn class_count(assets: &Assets) -> usize
@@ -111,14 +110,14 @@ fn answered(answer: Result<(), Refusal>) -> Reply
 impl Engine {
     ghost use Rattle.std.specs.Prelude.{Some, position};
     ghost use Rattle.multibuf.specs.Screens.{number_waiting, after_mark};
-    ghost use Rattle.gui_core.specs.Setups.{painter};
+    ghost use Rattle.desk.specs.Setups.{painter};
     ghost use Rattle.invalidate.specs.Invalidation.{is_invalid};
     ghost use Rattle.calls.specs.declared.call.Call.TheVariants.{Create};
-    ghost use Rattle.gui_core.specs.Jobs.{jobs_of};
+    ghost use Rattle.desk.specs.Jobs.{jobs_of};
     ghost use Rattle.calls.specs.declared.call.Call.TheVariants.{Begin, End, Exec, Exec1, DevCreate, DevDelete, DevCopy, SetMemdev};
-    ghost use Rattle.gui_core.specs.Changes.{call_for, context_call, stroke_call};
-    ghost use Rattle.gui_core.specs.Panes.{IsBegun, ended, Begins};
-    ghost use Rattle.gui_core.specs.Desks.{after_job, after_jobs};
+    ghost use Rattle.desk.specs.Changes.{call_for, context_call, stroke_call};
+    ghost use Rattle.surfaces.specs.Panes.{IsBegun, ended, Begins};
+    ghost use Rattle.desk.specs.Desks.{after_job, after_jobs};
     ghost use Rattle.gui_core.specs.States.{desk_of};
     ghost use Rattle.gui_core.specs.Machines.{IsConfig, Takes, TakesAlike, Makes, MakesAlike, Paints, Counts, IsUnmade, machine_for};
 
@@ -398,7 +397,7 @@ impl Engine {
             &mut self.contexts,
             task,
             change,
-            &self.windows,
+            self.windows.stack(),
             &self.surfaces,
             font_count(&self.assets),
         ))
@@ -560,7 +559,7 @@ impl Engine {
     }
 }
 
-ghost use Rattle.gui_core.specs.Desks.{rect_with};
+ghost use Rattle.desk.specs.Desks.{rect_with};
 ghost use Rattle.invalidate.specs.Invalidation.{IsLocal};
 
 /// The rectangle with these corners.

@@ -4,8 +4,8 @@ ghost use Rattle.std.specs.Prelude.{◌≡◌, ◌<◌, ◌≤◌, [], ◌∷◌
 ghost use Rattle.paint_ops.specs.Soundness.{IsSound};
 ghost use Rattle.multibuf.specs.Screens.{number_waiting};
 ghost use Rattle.calls.specs.Actors.{fits};
-ghost use Rattle.gui_core.specs.Setups.{painter};
-ghost use Rattle.gui_core.specs.Desks.{is_want_of_memory};
+ghost use Rattle.desk.specs.Setups.{painter};
+ghost use Rattle.desk.specs.Desks.{is_want_of_memory};
 ghost use Rattle.gui_core.specs.Machines.{IsConfig};
 
 use crate::engine::Engine;

@@ -8,13 +8,15 @@ ghost use Rattle.scene.specs.Painting.{windows_at, visible, painted_over, painte
 ghost use Rattle.context.specs.Contexts.{owned_by};
 ghost use Rattle.calls.specs.declared.entry.Entry.{Entry};
 ghost use Rattle.calls.specs.declared.entry.Entry.TheVariants as entry;
-ghost use Rattle.gui_core.specs.Devices.{picture_on};
-ghost use Rattle.gui_core.specs.Setups.{Setup, looks_of, painter};
+ghost use Rattle.desk.specs.Devices.{picture_on};
+ghost use Rattle.desk.specs.Setups.{Setup, looks_of, painter};
 ghost use Rattle.multibuf.specs.Screens.{latest};
-ghost use Rattle.gui_core.specs.Desks.{is_refused};
+ghost use Rattle.desk.specs.Desks.{is_refused};
 ghost use Rattle.gui_core.specs.States.{State, desk_of, opening, step, state_after};
-ghost use Rattle.gui_core.specs.Stains.{Stain, no_stain, stained, stain_after, draws};
-ghost use Rattle.gui_core.specs.Promises.{IsRightOutside, IsPainterOutside, NoneInvalid, IsQuiet, window_calls, changes_contexts, IsByAnother};
+ghost use Rattle.desk.specs.Stains.{Stain, no_stain};
+ghost use Rattle.gui_core.specs.Stains.{stained, stain_after, draws};
+ghost use Rattle.desk.specs.Promises.{IsRightOutside, IsPainterOutside, NoneInvalid};
+ghost use Rattle.gui_core.specs.Promises.{IsQuiet, window_calls, changes_contexts, IsByAnother};
 
 use calls::{Call, Refusal, Reply};
 

@@ -21,9 +21,9 @@ use Rattle.frame.specs.Pictures.{Picture}
 use Rattle.paint_ops.specs.Kinds.{Assets}
 use Rattle.script.specs.Scripts.{Script}
 use Rattle.journal.specs.Texts.{frame_text, reply_text, tick_text, summary_text}
-use Rattle.gui_core.specs.Setups.{Setup, setup_for, painter}
+use Rattle.desk.specs.Setups.{Setup, setup_for, painter}
 use Rattle.multibuf.specs.Screens.{number_waiting}
-use Rattle.gui_core.specs.Desks.{is_want_of_memory}
+use Rattle.desk.specs.Desks.{is_want_of_memory}
 use Rattle.gui_core.specs.States.{State, opening, step, state_after}
 use Rattle.gui_core.proofs.CallerLemmas.{painting_moves_nothing, state-append, refusals-append, calls-append, answers-state, entered}
 use Rattle.gui_core.specs.Promises.{changes_windows, window_calls}

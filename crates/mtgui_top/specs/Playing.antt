@@ -11,9 +11,9 @@ use Rattle.script.specs.declared.fault.Reason.TheVariants as reason
 use Rattle.script.specs.declared.fault.ScriptFault.{ScriptFault}
 use Rattle.script.specs.Scripts.{Script}
 use Rattle.journal.specs.Texts.{frame_text, reply_text, tick_text, summary_text, fault_text}
-use Rattle.gui_core.specs.Setups.{Setup, setup_for, painter}
+use Rattle.desk.specs.Setups.{Setup, setup_for, painter}
 use Rattle.multibuf.specs.Screens.{number_waiting}
-use Rattle.gui_core.specs.Desks.{is_refused}
+use Rattle.desk.specs.Desks.{is_refused}
 use Rattle.gui_core.specs.States.{State, opening, step, state_after}
 use Rattle.gui_core.specs.Histories.{Chronicle, mark_of, marks_in}
 use Rattle.mtgui_top.specs.declared.command.Verb.{Verb}

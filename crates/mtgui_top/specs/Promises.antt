@@ -7,10 +7,12 @@ use Rattle.calls.specs.declared.line.Act.TheVariants as act
 use Rattle.calls.specs.declared.line.Line.TheVariants.{Task}
 use Rattle.script.specs.Scripts.{Script}
 use Rattle.journal.specs.Texts.{frame_text}
-use Rattle.gui_core.specs.Setups.{painter}
+use Rattle.desk.specs.Setups.{painter}
 use Rattle.gui_core.specs.States.{State, opening}
-use Rattle.gui_core.specs.Stains.{Stain, no_stain, stain_after, draws}
-use Rattle.gui_core.specs.Promises.{IsPainterOutside, IsQuiet}
+use Rattle.desk.specs.Stains.{Stain, no_stain}
+use Rattle.gui_core.specs.Stains.{stain_after, draws}
+use Rattle.desk.specs.Promises.{IsPainterOutside}
+use Rattle.gui_core.specs.Promises.{IsQuiet}
 use Rattle.mtgui_top.specs.Playing.{setup_of, played, replies, summary_of, after_lines, play_text}
 
 -- the state after the first lines of a script

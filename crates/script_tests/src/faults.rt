@@ -117,8 +117,8 @@ const IN_HEADERS: [Faulty; 7] = [
         Reason::Header,
         BUFFERS,
         "1 exec\n|buffers 1\n|buffers 2\n|buffers 3|desktop 00000\n|desktop 0000000\n\
-        |desktop 0000ff\n|desktop  000000\n|desktop 000000 \n|desktop -\n|desktop\n|desktop 000000 1\n\
-        |desktop 00000G\n|Desktop 000000\n|class 1 -\n|done\n",
+        |desktop 0000ff\n|desktop  000000\n|desktop 000000 \n|desktop -\n|desktop\n\
+        |desktop 000000 1\n|desktop 00000G\n|Desktop 000000\n|class 1 -\n|done\n",
     ),
     // Bytes that no line has.
     (

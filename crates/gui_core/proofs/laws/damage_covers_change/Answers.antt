@@ -1,5 +1,5 @@
 use Rattle.scene.proofs.CallerLemmas.{painted-visible}
-use Rattle.gui_core.specs.Setups.{screen_of}
+use Rattle.desk.specs.Setups.{screen_of}
 use Rattle.gui_core.proofs.PainterLemmas.{damage_covers, valid_is_painter, undrawn_is_painter, stays_clean, exec_ends}
 use Rattle.gui_core.proofs.laws.damage_covers_change.Goals as goal
 

@@ -1,7 +1,7 @@
 use Rattle.std.proofs.Common.{◌≡◌, ◌+◌, ℕ, cond, ap, sym, add-zero}
 use Rattle.calls.specs.declared.reply.Reply.{Reply}
 use Rattle.gui_core.specs.Machines.{Machine}
-use Rattle.gui_core.specs.Desks.{is_refused}
+use Rattle.desk.specs.Desks.{is_refused}
 use Rattle.gui_core.proofs.CallLemmas.{answered_by, no_refusal}
 use Rattle.gui_core.specs.contracts.engine.Engine.{the_view}
 use Rattle.gui_core.proofs.engine.Engine.apply.Goals as goal

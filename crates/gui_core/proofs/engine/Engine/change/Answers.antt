@@ -1,9 +1,8 @@
-use Rattle.gui_core.specs.Setups.{screen_of}
-use Rattle.gui_core.specs.Windows.{after_change}
-use Rattle.gui_core.specs.Changes.{call_for, list_after}
+use Rattle.desk.specs.Setups.{screen_of}
+use Rattle.desk.specs.Windows.{after_change}
+use Rattle.desk.specs.Changes.{call_for, list_after}
 use Rattle.gui_core.specs.States.{desk_of}
-use Rattle.gui_core.proofs.SceneLemmas.{scene_after}
-use Rattle.gui_core.proofs.EffectLemmas.{scene_listed, does, on_windows}
+use Rattle.desk.proofs.CallerLemmas.{scene_after, scene_listed, does, on_windows}
 use Rattle.gui_core.proofs.CallLemmas.{performed, replied}
 use Rattle.gui_core.specs.contracts.engine.Engine.{the_view}
 use Rattle.gui_core.proofs.engine.Engine.change.Goals as goal

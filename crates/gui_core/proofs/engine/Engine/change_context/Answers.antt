@@ -1,5 +1,5 @@
-use Rattle.gui_core.specs.Changes.{context_call}
-use Rattle.gui_core.proofs.EffectLemmas.{on_a_context}
+use Rattle.desk.specs.Changes.{context_call}
+use Rattle.desk.proofs.CallerLemmas.{on_a_context}
 use Rattle.gui_core.proofs.CallLemmas.{context_replied}
 use Rattle.gui_core.specs.contracts.engine.Engine.{the_view}
 use Rattle.gui_core.proofs.engine.Engine.change_context.Goals as goal
@@ -7,4 +7,4 @@ use Rattle.gui_core.proofs.engine.Engine.change_context.Goals as goal
 pub returns : goal.returns
 returns c =
     let m = the_view c.self.inside in
-    context_replied _ m c.args.task (context_call c.args.change) c.change_context.result c.change_context.new.contexts _ (on_a_context c.args.change) c.self.view_is c.answered.ensures (rw c.font_count.ensures at c.change_context.ensures)
+    context_replied _ m c.args.task (context_call c.args.change) c.change_context.result c.change_context.new.contexts _ (on_a_context c.args.change) c.self.view_is c.answered.ensures (rw (c.font_count.ensures, c.stack.ensures) at c.change_context.ensures)

@@ -2,7 +2,7 @@ use Rattle.std.proofs.Common.{◌<◌, refl, sym, subst}
 use Rattle.std.specs.Int.{w16}
 use Rattle.std.proofs.lemmas.Int.{to_z-of_z}
 use Rattle.calls.specs.declared.call.Call.TheVariants.{DevCopy}
-use Rattle.gui_core.specs.Drawing.{Copy}
+use Rattle.desk.specs.Drawing.{Copy}
 use Rattle.gui_core.specs.Machines.{Machine}
 use Rattle.gui_core.proofs.CallLemmas.{drawn, copies_device, work_kept, work_replied}
 use Rattle.gui_core.specs.contracts.engine.Engine.{the_view}

@@ -3,12 +3,12 @@ use Rattle.std.specs.Prelude.{position}
 use Rattle.frame.specs.Pictures.{Picture}
 use Rattle.multibuf.specs.Screens.{latest}
 use Rattle.invalidate.specs.Invalidation.{is_invalid}
-use Rattle.gui_core.specs.Jobs.{windows_after_job, picture_after_job}
-use Rattle.gui_core.specs.Panes.{IsBegun, with_drawn}
+use Rattle.desk.specs.Jobs.{windows_after_job, picture_after_job}
+use Rattle.surfaces.specs.Panes.{IsBegun, with_drawn}
 use Rattle.gui_core.specs.Machines.{Machine}
-use Rattle.gui_core.proofs.JobLemmas.{job_shows}
+use Rattle.desk.proofs.CallerLemmas.{job_shows}
 use Rattle.gui_core.proofs.KeptLemmas.{kept-job}
-use Rattle.gui_core.proofs.TurnLemmas.{latest-draw}
+use Rattle.surfaces.proofs.CallerLemmas.{latest-draw}
 use Rattle.gui_core.specs.contracts.engine.Engine.{the_view}
 use Rattle.gui_core.proofs.engine.Engine.do_job.Goals as goal
 

@@ -1,12 +1,12 @@
 use Rattle.std.proofs.Common.{◌≡◌, length, Some, None, sym, ap, ◌∙◌, refl, arith}
 use Rattle.std.specs.Prelude.{position}
 use Rattle.invalidate.specs.Invalidation.{is_invalid}
-use Rattle.gui_core.specs.Jobs.{windows_after_job, jobs_of}
-use Rattle.gui_core.specs.Desks.{Desk, after_job}
+use Rattle.desk.specs.Jobs.{windows_after_job, jobs_of}
+use Rattle.desk.specs.Desks.{Desk, after_job}
 use Rattle.gui_core.specs.States.{desk_of}
 use Rattle.gui_core.specs.Machines.{Machine}
-use Rattle.gui_core.proofs.JobLemmas.{no_jobs}
-use Rattle.gui_core.proofs.KeptLemmas.{jobs-step, exec-more, paints-more, begun-more, jobs_done, few_jobs, length-windows_after_job}
+use Rattle.desk.proofs.CallerLemmas.{no_jobs, length-windows_after_job}
+use Rattle.gui_core.proofs.KeptLemmas.{jobs-step, exec-more, paints-more, begun-more, jobs_done, few_jobs}
 use Rattle.gui_core.proofs.engine.Engine.do_jobs.Goals as goal
 
 pub loop-which-init : goal.loop-which-init

@@ -1,8 +1,8 @@
 use Rattle.std.proofs.Common.{◌≡◌, ◌+◌, length}
-use Rattle.gui_core.specs.Jobs.{jobs_of}
-use Rattle.gui_core.specs.Desks.{after_jobs}
+use Rattle.desk.specs.Jobs.{jobs_of}
+use Rattle.desk.specs.Desks.{after_jobs}
 use Rattle.gui_core.specs.States.{desk_of}
-use Rattle.gui_core.specs.Panes.{IsBegun}
+use Rattle.surfaces.specs.Panes.{IsBegun}
 use Rattle.gui_core.specs.Machines.{Paints}
 use Rattle.gui_core.proofs.engine.Engine.do_jobs.Given as goal
 

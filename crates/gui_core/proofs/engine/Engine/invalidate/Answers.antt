@@ -1,8 +1,8 @@
 use Rattle.std.proofs.Common.{refl}
 use Rattle.calls.specs.declared.call.Call.TheVariants.{Invalidate}
-use Rattle.gui_core.specs.Setups.{screen_of}
-use Rattle.gui_core.specs.Windows.{with_invalid_window}
-use Rattle.gui_core.proofs.EffectLemmas.{scene_invalid_window}
+use Rattle.desk.specs.Setups.{screen_of}
+use Rattle.desk.specs.Windows.{with_invalid_window}
+use Rattle.desk.proofs.CallerLemmas.{scene_invalid_window}
 use Rattle.gui_core.proofs.CallLemmas.{performed, replied}
 use Rattle.gui_core.specs.contracts.engine.Engine.{the_view}
 use Rattle.gui_core.proofs.engine.Engine.invalidate.Goals as goal

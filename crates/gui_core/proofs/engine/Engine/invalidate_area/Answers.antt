@@ -1,10 +1,10 @@
 use Rattle.std.proofs.Common.{sym, subst}
 use Rattle.scene.specs.Clips.{clip_in}
 use Rattle.win_tree.specs.Trees.{Scene}
-use Rattle.gui_core.specs.Setups.{screen_of}
+use Rattle.desk.specs.Setups.{screen_of}
 use Rattle.gui_core.specs.Machines.{IsKept}
-use Rattle.gui_core.specs.Windows.{with_invalid_area}
-use Rattle.gui_core.proofs.SceneLemmas.{scene_area}
+use Rattle.desk.specs.Windows.{with_invalid_area}
+use Rattle.desk.proofs.CallerLemmas.{scene_area}
 use Rattle.gui_core.proofs.KeptLemmas.{kept-windows}
 use Rattle.gui_core.proofs.CallLemmas.{with_scene}
 use Rattle.gui_core.specs.contracts.engine.Engine.{the_view}

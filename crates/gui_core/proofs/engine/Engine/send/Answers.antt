@@ -2,9 +2,9 @@ use Rattle.std.proofs.Common.{refl}
 use Rattle.std.specs.Int.{w16}
 use Rattle.std.proofs.lemmas.Int.{to_z-of_z}
 use Rattle.calls.specs.declared.call.Call.TheVariants.{Send}
-use Rattle.gui_core.specs.Setups.{screen_of}
-use Rattle.gui_core.specs.Windows.{with_message}
-use Rattle.gui_core.proofs.MessageLemmas.{scene_rest, message_valid, rest_message}
+use Rattle.desk.specs.Setups.{screen_of}
+use Rattle.desk.specs.Windows.{with_message}
+use Rattle.desk.proofs.CallerLemmas.{scene_rest, message_valid, rest_message}
 use Rattle.gui_core.proofs.CallLemmas.{performed, replied}
 use Rattle.gui_core.specs.contracts.engine.Engine.{the_view}
 use Rattle.gui_core.proofs.engine.Engine.send.Goals as goal

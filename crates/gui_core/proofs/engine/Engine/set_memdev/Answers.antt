@@ -1,9 +1,8 @@
 use Rattle.std.proofs.Common.{refl}
 use Rattle.scene.specs.Families.{window_changed}
 use Rattle.calls.specs.declared.call.Call.TheVariants.{SetMemdev}
-use Rattle.gui_core.specs.Windows.{with_memdev}
-use Rattle.gui_core.proofs.SceneLemmas.{scene_memdev}
-use Rattle.gui_core.proofs.PlaceLemmas.{memdev_may_become}
+use Rattle.desk.specs.Windows.{with_memdev}
+use Rattle.desk.proofs.CallerLemmas.{scene_memdev, memdev_may_become}
 use Rattle.gui_core.proofs.CallLemmas.{performed, replied}
 use Rattle.gui_core.specs.contracts.engine.Engine.{the_view}
 use Rattle.gui_core.proofs.engine.Engine.set_memdev.Goals as goal

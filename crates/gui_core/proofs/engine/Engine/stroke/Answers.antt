@@ -1,10 +1,10 @@
 use Rattle.std.proofs.Common.{◌<◌, refl, sym, subst}
-use Rattle.gui_core.specs.Drawing.{Draw}
+use Rattle.desk.specs.Drawing.{Draw}
 use Rattle.gui_core.specs.Machines.{Machine}
-use Rattle.gui_core.proofs.DeviceLemmas.{few_handles}
+use Rattle.surfaces.proofs.CallerLemmas.{few_handles}
 use Rattle.gui_core.proofs.CallLemmas.{drawn, draws_shape, work_kept, work_replied}
 use Rattle.gui_core.specs.contracts.engine.Engine.{the_view}
-use Rattle.gui_core.specs.Changes.{stroke_call}
+use Rattle.desk.specs.Changes.{stroke_call}
 use Rattle.gui_core.proofs.engine.Engine.stroke.Goals as goal
 
 pub invariant_of-self : goal.invariant_of-self

@@ -1,5 +1,5 @@
 use Rattle.std.proofs.Common.{ap, ◌∙◌}
-use Rattle.gui_core.specs.Setups.{painter}
+use Rattle.desk.specs.Setups.{painter}
 use Rattle.gui_core.specs.States.{State}
 use Rattle.gui_core.specs.Histories.{Chronicle, state_of}
 use Rattle.gui_core.proofs.gui.Gui.into_painted.Goals as goal

@@ -1,0 +1,10 @@
+pub mod Setups
+pub mod Windows
+pub mod Changes
+pub mod Scenes
+pub mod Jobs
+pub mod Devices
+pub mod Drawing
+pub mod Desks
+pub mod Stains
+pub mod Promises

@@ -1,5 +1,0 @@
-use Rattle.gui_core.proofs.SurfaceLemmas.{opened}
-use Rattle.gui_core.proofs.surfaces.Surfaces.open.Goals as goal
-
-pub returns : goal.returns
-returns c = opened c.args.w c.args.h c.args.buffers c.in_ok-buffers.buffers c.new-2.result c.in_ok-buffers.ensures c.new-2.ensures

@@ -1,0 +1,4 @@
+mod DeviceLemmas
+mod SurfaceLemmas
+mod TurnLemmas
+pub mod CallerLemmas

@@ -1,0 +1,1 @@
+-- The lemmas on the windows that proofs of other crates may cite.

@@ -1,0 +1,5 @@
+mod ToldLemmas
+mod StepLemmas
+mod FollowLemmas
+mod PlaceLemmas
+pub mod CallerLemmas
