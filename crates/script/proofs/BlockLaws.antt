@@ -22,7 +22,8 @@ use Rattle.script.specs.declared.draft.Block.TheVariants as block
 use Rattle.script.specs.declared.fault.Reason.{Reason}
 use Rattle.script.specs.declared.fault.Reason.TheVariants as reason
 use Rattle.script.specs.declared.fault.LineError.{LineError}
-use Rattle.script.specs.Scripts.{class_text, font_fields, font_text, bitmap_fields, bitmap_text, plain_class, class_with, may_have, IsClassLine, AreClassLines, class_of, Item, FontOf, BitmapOf, ClassOf, Before, IsEarly, after, Spells, HeadFits}
+use Rattle.script_lines.specs.Texts.{class_text, font_fields, font_text, bitmap_fields, bitmap_text, HeadFits}
+use Rattle.script.specs.Scripts.{plain_class, class_with, may_have, IsClassLine, AreClassLines, class_of, Item, FontOf, BitmapOf, ClassOf, Before, IsEarly, after, Spells}
 use Rattle.script.specs.Faults.{OpensClass, OpensFont, OpensBitmap}
 use Rattle.script.specs.Reading.{class_after, font_after, bitmap_after, block_after, with_block, IsBlock, IsClosed, TakesBlock, drawing_reason}
 

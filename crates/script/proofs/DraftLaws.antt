@@ -21,18 +21,18 @@ use Rattle.script.specs.declared.draft.Stage.{Stage}
 use Rattle.script.specs.declared.draft.Stage.TheVariants as stage
 use Rattle.script.specs.declared.fault.Reason.{Reason}
 use Rattle.script.specs.declared.fault.Reason.TheVariants as reason
-use Rattle.script.specs.Fields.{screen_in, buffers_in, desktop_in, class_in, string_in, font_in, bitmap_in}
+use Rattle.script_lines.specs.Fields.{screen_in, buffers_in, desktop_in, class_in, string_in, font_in, bitmap_in}
 use Rattle.script.specs.Later.{is_one_of, asset_words}
-use Rattle.script.specs.Counts.{count_alike}
-use Rattle.script.specs.Scripts.{screen_fields, buffers_fields, desktop_fields, class_text, string_text, with_string, Item, Title, Screen, Buffers, Desktop, StringOf, CallOf, Before, nothing, after, Spells, plain_class, font_fields, font_text, bitmap_fields, bitmap_text, may_do, HeadFits}
+use Rattle.script_lines.specs.Counts.{count_alike}
+use Rattle.script_lines.specs.Texts.{screen_fields, buffers_fields, desktop_fields, class_text, string_text, font_fields, font_text, bitmap_fields, bitmap_text, HeadFits}
+use Rattle.script.specs.Scripts.{with_string, Item, Title, Screen, Buffers, Desktop, StringOf, CallOf, Before, nothing, after, Spells, plain_class, may_do}
 use Rattle.script.specs.Faults.{IsPrefix, StandsAt, AreWhole, AreOpen, OpensClass, OpensDrawing}
 use Rattle.script.specs.Reading.{Draft, after_value, after_title, after_screen, after_buffers, after_desktop, after_block, after_class, after_string, after_early, after_asset, after_other, after_call, after_body, after_words, after_line, with_screen, with_buffers, with_colour, opened, before_at, place_at, place_of, call_reason, empty_draft, gone_on, block_after, closed, after_font, after_bitmap, takes_comments, IsBlock, IsStage, IsDraft, with_call, after_call_line}
 use Rattle.glyph_font.specs.Reading as fonts
 use Rattle.bitmap.specs.Reading as bitmaps
 use Rattle.glyph_font.proofs.CallerLemmas as font_laws
 use Rattle.bitmap.proofs.CallerLemmas as bitmap_laws
-use Rattle.script.proofs.StringLaws.{string_taken}
-use Rattle.script.proofs.ClassHeadLaws.{head_taken}
+use Rattle.script_lines.proofs.CallerLemmas.{string_taken, head_taken}
 use Rattle.script.proofs.BlockLaws.{block_kept, Says, class_opens, font_opens, bitmap_opens, says_more, says_whole, class_comment}
 
 -- ---- where a draft stands

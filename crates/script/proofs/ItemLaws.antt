@@ -23,9 +23,9 @@ use Rattle.calls.specs.declared.line.Line.{Line}
 use Rattle.calls.specs.declared.line.Line.TheVariants.{Task, Tick}
 use Rattle.calls.specs.Words.{text_of_line, words_of_act, LineFits}
 use Rattle.calls.proofs.CallerLemmas.{line_spelled, line_words_whole}
-use Rattle.script.specs.Scripts.{screen_fields, buffers_fields, desktop_fields, class_text, string_text, font_fields, bitmap_fields, IsFontBlock, IsBitmapBlock, Item, Title, Screen, Buffers, Desktop, FontOf, BitmapOf, StringOf, ClassOf, CallOf, Before, nothing, after, IsStringBlock, AreClassLines, IsClassBlock, Spells, AreItemsOf, Script, script_for, listing_of, IsScript, text_of_back}
-use Rattle.script.proofs.StringLaws.{string_words, string_same}
-use Rattle.script.proofs.ClassHeadLaws.{head_words, head_same}
+use Rattle.script_lines.specs.Texts.{screen_fields, buffers_fields, desktop_fields, class_text, string_text, font_fields, bitmap_fields, text_of_back}
+use Rattle.script.specs.Scripts.{IsFontBlock, IsBitmapBlock, Item, Title, Screen, Buffers, Desktop, FontOf, BitmapOf, StringOf, ClassOf, CallOf, Before, nothing, after, IsStringBlock, AreClassLines, IsClassBlock, Spells, AreItemsOf, Script, script_for, listing_of, IsScript}
+use Rattle.script_lines.proofs.CallerLemmas.{string_words, string_same, head_words, head_same}
 use Rattle.script.proofs.BodyLaws.{one_line, one_body, without_end}
 
 -- ---- one text has one meaning

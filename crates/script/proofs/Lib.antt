@@ -1,7 +1,4 @@
 pub mod CallerLemmas
-mod CountLaws
-mod StringLaws
-mod ClassHeadLaws
 mod AssetLemmas
 mod BodyLaws
 mod BlockLaws

@@ -32,17 +32,17 @@ use Rattle.script.specs.declared.draft.Block.TheVariants as kind
 use Rattle.script.specs.declared.draft.Stage.{Stage}
 use Rattle.script.specs.declared.draft.Stage.TheVariants as stage
 use Rattle.script.specs.declared.fault.Reason.{Reason}
-use Rattle.script.specs.Fields.{screen_in, buffers_in, desktop_in, font_in, bitmap_in}
+use Rattle.script_lines.specs.Fields.{screen_in, buffers_in, desktop_in, font_in, bitmap_in}
 use Rattle.script.specs.Later.{is_one_of, asset_words}
-use Rattle.script.specs.Counts.{count_alike}
-use Rattle.script.specs.Scripts.{screen_fields, buffers_fields, desktop_fields, class_text, string_text, with_string, Item, Title, Screen, Buffers, Desktop, StringOf, ClassOf, CallOf, Before, IsFontBlock, IsBitmapBlock, nothing, after, Spells, class_of, IsClassLine, AreClassLines, plain_class, class_with, may_have, font_fields, font_text, bitmap_fields, bitmap_text, FontOf, BitmapOf, with_font, with_bitmap, may_do, HeadFits, text_of_back}
+use Rattle.script_lines.specs.Counts.{count_alike}
+use Rattle.script_lines.specs.Texts.{screen_fields, buffers_fields, desktop_fields, class_text, string_text, font_fields, font_text, bitmap_fields, bitmap_text, HeadFits, text_of_back}
+use Rattle.script.specs.Scripts.{with_string, Item, Title, Screen, Buffers, Desktop, StringOf, ClassOf, CallOf, Before, IsFontBlock, IsBitmapBlock, nothing, after, Spells, class_of, IsClassLine, AreClassLines, plain_class, class_with, may_have, FontOf, BitmapOf, with_font, with_bitmap, may_do}
 use Rattle.paint_ops.specs.Kinds.{Class}
 use Rattle.paint_ops.specs.Texts.{IsText}
 use Rattle.std.specs.Fmt.{decimal}
 use Rattle.script.specs.Faults.{Place, Between, AreOpen, IsPrefix, OpensClass, OpensDrawing, InClass, InDrawing}
 use Rattle.script.specs.Reading.{Draft, empty_draft, after_title, after_screen, after_buffers, after_desktop, after_block, after_class, after_string, after_asset, after_other, after_call, after_body, after_words, after_line, with_screen, with_buffers, with_colour, opened, before_at, place_at, place_of, block_after, closed, after_font, after_bitmap, takes_comments, with_call}
-use Rattle.script.proofs.StringLaws.{string_words, string_again}
-use Rattle.script.proofs.ClassHeadLaws.{head_words, head_again}
+use Rattle.script_lines.proofs.CallerLemmas.{string_words, string_again, head_words, head_again}
 use Rattle.script.proofs.ItemLaws.{opens, uncommented}
 
 -- ---- lines that are taken

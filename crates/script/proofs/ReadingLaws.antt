@@ -24,11 +24,11 @@ use Rattle.script.specs.declared.fault.Reason.TheVariants as reason
 use Rattle.script.specs.declared.fault.ScriptFault.{ScriptFault}
 use Rattle.script.specs.declared.fault.ScriptRefused.{ScriptRefused}
 use Rattle.script.specs.declared.fault.ScriptRefused.TheVariants as read_error
-use Rattle.script.specs.Counts.{count_alike, AreCounted}
+use Rattle.script_lines.specs.Counts.{count_alike, AreCounted}
 use Rattle.script.specs.Scripts.{Item, Title, Screen, Buffers, Desktop, FontOf, BitmapOf, StringOf, ClassOf, CallOf, Before, nothing, after, after_items, Spells, AreItemsOf, listing_of, plain_class, class_of, Script, script_for, IsScript, IsNoScript, IsReady, are_free}
 use Rattle.script.specs.Faults.{Between, IsPrefix, Why, why_cut, IsFault, IsError}
 use Rattle.script.specs.Reading.{Draft, empty_draft, after_line, place_at, place_of, from_line, read_of, Reads, Says}
-use Rattle.script.proofs.CountLaws.{ticks_more, calls_and_ticks, counted_more}
+use Rattle.script_lines.proofs.CallerLemmas.{ticks_more, calls_and_ticks, counted_more}
 use Rattle.script.proofs.AssetLemmas.{class_more, font_more, bitmap_more, string_more}
 use Rattle.script.proofs.BodyLaws.{class_sound}
 use Rattle.script.proofs.ItemLaws.{one_script}

@@ -22,13 +22,13 @@ use Rattle.script.specs.declared.draft.Stage.{Stage}
 use Rattle.script.specs.declared.draft.Stage.TheVariants as stage
 use Rattle.script.specs.declared.fault.Reason.{Reason}
 use Rattle.script.specs.declared.fault.Reason.TheVariants as reason
-use Rattle.script.specs.Fields.{class_in, font_in, bitmap_in, string_in}
-use Rattle.script.specs.Counts.{count_alike}
+use Rattle.script_lines.specs.Fields.{class_in, font_in, bitmap_in, string_in, screen_in, buffers_in, desktop_in}
+use Rattle.script_lines.specs.Counts.{count_alike}
 use Rattle.script.specs.Later.{is_one_of, begins_with_one_of, asset_words, later_words}
-use Rattle.script.specs.Scripts.{Before, font_fields, bitmap_fields, plain_class, with_string, may_do}
+use Rattle.script.specs.Scripts.{Before, plain_class, with_string, may_do}
+use Rattle.script_lines.specs.Texts.{font_fields, bitmap_fields}
 use Rattle.script.specs.Faults.{Place, Between, is_later, is_later_form, IsCallLine, IsBarred, opens_asset, Holds, rank, Why, InClass, InDrawing}
 use Rattle.script.specs.Reading.{Draft, after_value, after_title, after_screen, after_buffers, after_desktop, after_block, after_class, after_string, after_early, after_asset, after_other, after_call, after_body, after_words, after_line, with_screen, with_buffers, with_colour, after_font, after_bitmap, gone_on, block_after, takes_comments, opened, before_at, place_at, place_of, call_reason, closed, with_call, drawing_reason}
-use Rattle.script.specs.Fields.{screen_in, buffers_in, desktop_in}
 use Rattle.script.proofs.BlockLaws.{reason_in, block_reason}
 use Rattle.script.proofs.DraftLaws.{at_odds, asset_word}
 

@@ -20,7 +20,8 @@ use Rattle.script.specs.declared.fault.ScriptFault.{ScriptFault}
 use Rattle.script.specs.declared.fault.ScriptRefused.{ScriptRefused}
 use Rattle.script.specs.declared.fault.ScriptRefused.TheVariants as read_error
 use Rattle.script.specs.Later.{begins_with_one_of, asset_words, later_words}
-use Rattle.script.specs.Scripts.{Item, Before, IsEarly, AreClassLines, class_text, font_fields, font_text, bitmap_fields, bitmap_text, may_do, are_free, after_items, AreItemsOf, HeadFits}
+use Rattle.script.specs.Scripts.{Item, Before, IsEarly, AreClassLines, may_do, are_free, after_items, AreItemsOf}
+use Rattle.script_lines.specs.Texts.{class_text, font_fields, font_text, bitmap_fields, bitmap_text, HeadFits}
 
 -- ---- where a line stands
 

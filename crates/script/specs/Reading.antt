@@ -26,10 +26,11 @@ use Rattle.script.specs.declared.fault.LineError.{LineError}
 use Rattle.script.specs.declared.fault.LineError.TheVariants as line_error
 use Rattle.script.specs.declared.fault.ScriptRefused.{ScriptRefused}
 use Rattle.script.specs.declared.fault.ScriptRefused.TheVariants as read_error
-use Rattle.script.specs.Fields.{screen_in, buffers_in, desktop_in, class_in, font_in, bitmap_in, string_in}
-use Rattle.script.specs.Counts.{count_alike}
+use Rattle.script_lines.specs.Fields.{screen_in, buffers_in, desktop_in, class_in, font_in, bitmap_in, string_in}
+use Rattle.script_lines.specs.Counts.{count_alike}
 use Rattle.script.specs.Later.{is_one_of, asset_words, later_words}
-use Rattle.script.specs.Scripts.{Before, Listing, Script, font_fields, bitmap_fields, empty_listing, plain_class, with_class, with_font, with_bitmap, with_string, with_line, with_desktop, class_with, may_have, may_do, locks_with, no_locks, script_for}
+use Rattle.script.specs.Scripts.{Before, Listing, Script, empty_listing, plain_class, with_class, with_font, with_bitmap, with_string, with_line, with_desktop, class_with, may_have, may_do, locks_with, no_locks, script_for}
+use Rattle.script_lines.specs.Texts.{font_fields, bitmap_fields}
 use Rattle.script.specs.Faults.{Place, Between, InClass, InDrawing, is_later_form, why_cut}
 
 -- ---- reasons against a line

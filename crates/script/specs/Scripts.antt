@@ -1,5 +1,5 @@
 -- What a script says, and which files are scripts.
-use Rattle.std.specs.Prelude.{◌≡◌, ℕ, ◌^◌, ◌<◌, IfSome, Option, None, ◌+◌, ◌-◌, ◌≤◌, ◌==◌, slice_index, slice_set, replicate, Bool, true, ◌&&◌, List, [], ◌∷◌, ◌++◌, length, Some, nat_lt, codes, decimal}
+use Rattle.std.specs.Prelude.{◌≡◌, ℕ, Option, ◌+◌, ◌-◌, ◌≤◌, ◌==◌, slice_index, slice_set, replicate, Bool, true, ◌&&◌, List, [], ◌∷◌, ◌++◌, length, Some, nat_lt, codes}
 use Rattle.std.specs.List.{AllByRecursion, list_all}
 use Rattle.glyph_font.specs.Fonts.{Font, IsFont}
 use Rattle.glyph_font.specs.Texts.{font_lines}
@@ -20,61 +20,11 @@ use Rattle.calls.specs.declared.line.Act.TheVariants as act
 use Rattle.calls.specs.declared.line.Line.TheVariants.{Task, Tick}
 use Rattle.calls.specs.Lines.{FitsItsTask, call_count, tick_count}
 use Rattle.calls.specs.Words.{text_of_line, LineFits}
-use Rattle.spelling.specs.Digits.{hex_colour}
 use Rattle.spelling.specs.Parts.{lines_of, is_printable}
-use Rattle.spelling.specs.Words.{text_of_words}
-use Rattle.spelling.specs.Fields.{Field, Natural, Colour, AreIn, text_with}
+use Rattle.spelling.specs.Fields.{AreIn, text_with}
 use Rattle.spelling.specs.Items.{AreItems, all_after}
-use Rattle.script.specs.Counts.{count_alike}
-
--- ---- the fields of lines
-
-abbrev pub screen_fields : List Field
-screen_fields = Natural 1 1024 ∷ Natural 1 768 ∷ []
-
-abbrev pub buffers_fields : List Field
-buffers_fields = Natural 1 3 ∷ []
-
-abbrev pub desktop_fields : List Field
-desktop_fields = Colour ∷ []
-
--- a font's number and its height in points
-abbrev pub font_fields : List Field
-font_fields = Natural 0 7 ∷ Natural 1 32 ∷ []
-
--- a bitmap's number and its sides in points
-abbrev pub bitmap_fields : List Field
-bitmap_fields = Natural 0 31 ∷ Natural 1 256 ∷ Natural 1 256 ∷ []
-
--- a class's back colour, or `-` where it has none
-abbrev pub text_of_back : Option ℕ → List ℕ
-text_of_back None = codes "-"
-text_of_back (Some colour) = hex_colour colour
-
-abbrev pub BackFits : Option ℕ → Type 0
-BackFits back = IfSome back (λ colour. colour < 2 ^ 24)
-
--- the line that opens a class
-abbrev pub class_text : ℕ → Option ℕ → List ℕ
-class_text number back =
-    text_of_words (codes "class" ∷ decimal number ∷ text_of_back back ∷ [])
-
--- the ranges of what it says
-abbrev pub HeadFits : ℕ → Option ℕ → Type 0
-HeadFits number back = (1 ≤ number) × (number ≤ 63) × BackFits back
-
--- the line that opens a font
-abbrev pub font_text : ℕ → ℕ → List ℕ
-font_text number height = text_with (codes "font") font_fields (number, (height, tt))
-
--- the line that opens a bitmap
-abbrev pub bitmap_text : ℕ → ℕ → ℕ → List ℕ
-bitmap_text number width height =
-    text_with (codes "bitmap") bitmap_fields (number, (width, (height, tt)))
-
--- the line of the string of this number, whose text may have spaces
-abbrev pub string_text : ℕ → List ℕ → List ℕ
-string_text number text = text_of_words (codes "string" ∷ decimal number ∷ text ∷ [])
+use Rattle.script_lines.specs.Counts.{count_alike}
+use Rattle.script_lines.specs.Texts.{HeadFits, bitmap_fields, bitmap_text, buffers_fields, class_text, desktop_fields, font_fields, font_text, screen_fields, string_text}
 
 -- ---- what items say
 

@@ -14,14 +14,10 @@ ghost use Rattle.script.specs.Reading.{after_title, after_screen, after_buffers,
 ghost use Rattle.script.specs.Reading.{after_class, after_font, after_bitmap, after_string};
 ghost use Rattle.script.specs.Reading.{after_early, after_asset, after_other, after_body, after_block};
 ghost use Rattle.script.specs.Reading.{after_words, after_call_line};
-ghost use Rattle.script.specs.Fields.{class_in, font_in, bitmap_in, string_in, IsTasks};
+ghost use Rattle.script_lines.specs.Fields.{class_in, font_in, bitmap_in, string_in, IsTasks};
 ghost use Rattle.script.specs.Scripts.{are_there, plain_class, may_act_with, may_do, locks_with, are_free, script_for};
 
-use crate::call_lines::CallLines;
 use crate::fault::{LineError, Reason};
-use crate::fields::{
-    bitmap_in, buffers_in, class_in, desktop_in, font_in, line_in, screen_in, string_in,
-};
 use crate::reasons::{call_reason, drawing_reason, is_asset_word};
 use crate::script::Script;
 use bitmap::{BitmapDraft, BitmapLineError};
@@ -30,6 +26,9 @@ use class_lines::{ClassLine, class_line};
 use gfx_base::Colour;
 use glyph_font::{FontDraft, FontLineError};
 use paint_ops::{Assets, Class, Op};
+use script_lines::{
+    CallLines, bitmap_in, buffers_in, class_in, desktop_in, font_in, line_in, screen_in, string_in,
+};
 use spelling::word_at;
 use std::alloc::{AllocError, Global};
 use std::mem;

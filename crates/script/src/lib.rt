@@ -1,10 +1,8 @@
 //! Scripts: which files are scripts, what they say, and the first fault of any other file.
 #![tactic(auto)]
 
-mod call_lines;
 mod draft;
 mod fault;
-mod fields;
 pub mod laws;
 mod reader;
 mod reasons;

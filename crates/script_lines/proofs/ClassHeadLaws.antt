@@ -7,8 +7,8 @@ use Rattle.std.proofs.lemmas.List.{nil_from_length}
 use Rattle.std.proofs.lemmas.Option.{same_Some}
 use Rattle.spelling.specs.Words.{◌>>=◌, words_of, text_of_words, after_word, natural_at, colour_of}
 use Rattle.spelling.proofs.CallerLemmas.{IsWhole, parts-join, bind_some, chosen, named, line_from_words, after_word_again, natural_at_takes, natural_at_again, colour_takes, colour_again, colour_no_dash, whole_by_test, natural_whole, colour_whole}
-use Rattle.script.specs.Fields.{back_of, back_in, class_in}
-use Rattle.script.specs.Scripts.{text_of_back, BackFits, HeadFits, class_text}
+use Rattle.script_lines.specs.Fields.{back_of, back_in, class_in}
+use Rattle.script_lines.specs.Texts.{text_of_back, BackFits, HeadFits, class_text}
 
 -- ---- the back colour
 

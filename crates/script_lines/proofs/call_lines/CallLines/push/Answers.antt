@@ -1,7 +1,7 @@
 use Rattle.std.proofs.Common.{◌<◌}
-use Rattle.script.specs.Counts.{count_alike}
-use Rattle.script.proofs.CountLaws.{counted_task}
-use Rattle.script.proofs.call_lines.CallLines.push.Goals as goal
+use Rattle.script_lines.specs.Counts.{count_alike}
+use Rattle.script_lines.proofs.CountLaws.{counted_task}
+use Rattle.script_lines.proofs.call_lines.CallLines.push.Goals as goal
 
 pub invariant_of-self-in-Continue-branch-2 : goal.invariant_of-self-in-Continue-branch-2
 invariant_of-self-in-Continue-branch-2 c =

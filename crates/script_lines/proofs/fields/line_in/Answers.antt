@@ -3,7 +3,7 @@ use Rattle.std.specs.Prelude.{bytes_eq, codes}
 use Rattle.spelling.specs.Words.{words_of}
 use Rattle.calls.specs.Words.{are_tick, line_of}
 use Rattle.calls.proofs.CallerLemmas.{tick_line}
-use Rattle.script.proofs.fields.line_in.Goals as goal
+use Rattle.script_lines.proofs.fields.line_in.Goals as goal
 
 pub returns-else-eq-clause-value : goal.returns-else-eq-clause-value
 unfolding line_of

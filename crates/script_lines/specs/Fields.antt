@@ -5,7 +5,7 @@ use Rattle.spelling.specs.Words.{◌>>=◌, natural_at, colour_of, text_of_words
 use Rattle.spelling.specs.Fields.{Values, values_of, line_values}
 use Rattle.calls.specs.declared.line.Line.{Line}
 use Rattle.calls.specs.declared.line.Line.TheVariants.{Task, Tick}
-use Rattle.script.specs.Scripts.{screen_fields, buffers_fields, desktop_fields, font_fields, bitmap_fields}
+use Rattle.script_lines.specs.Texts.{screen_fields, buffers_fields, desktop_fields, font_fields, bitmap_fields}
 
 -- the sides in the words of `screen W H`
 unfoldable pub screen_in : List (List ℕ) → Option (Values screen_fields)

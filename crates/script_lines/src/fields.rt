@@ -5,7 +5,7 @@ ghost use Rattle.std.specs.Prelude.{◌≡◌, ◌≤◌, IfSome};
 ghost use Rattle.spelling.specs.Words.{Gives, left, words_of};
 ghost use Rattle.spelling.specs.Fields.{Reads};
 ghost use Rattle.calls.specs.Words.{call_with, act_at, task_line_of, line_of};
-ghost use Rattle.script.specs.Fields.{screen_in, buffers_in, desktop_in, back_of, back_in, class_in, font_in, bitmap_in, text_in, string_in, IsTasks};
+ghost use Rattle.script_lines.specs.Fields.{screen_in, buffers_in, desktop_in, back_of, back_in, class_in, font_in, bitmap_in, text_in, string_in, IsTasks};
 
 use calls::{Act, Call, Line, Word};
 use gfx_base::Colour;

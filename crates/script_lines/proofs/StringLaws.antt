@@ -13,8 +13,8 @@ use Rattle.paint_ops.specs.Texts.{IsText}
 use Rattle.spelling.specs.Parts.{is_printable}
 use Rattle.spelling.specs.Words.{◌>>=◌, Gives, left, words_of, text_of_words, after_word, natural_at}
 use Rattle.spelling.proofs.CallerLemmas.{IsWhole, bind_some, chosen, line_from_words, natural_at_takes, natural_at_again, natural_whole, whole_by_test, after_word_again}
-use Rattle.script.specs.Fields.{text_in, string_in}
-use Rattle.script.specs.Scripts.{string_text}
+use Rattle.script_lines.specs.Fields.{text_in, string_in}
+use Rattle.script_lines.specs.Texts.{string_text}
 
 -- ---- the words of a string's line
 

@@ -2,7 +2,7 @@
 
 ghost use Rattle.std.specs.Prelude.{◌≡◌, ◌<◌, ◌==◌, ◌++◌, ◌∷◌, [], length, nat_lt, IfOk};
 ghost use Rattle.calls.specs.Lines.{call_count};
-ghost use Rattle.script.specs.Counts.{count_alike};
+ghost use Rattle.script_lines.specs.Counts.{count_alike};
 
 use calls::{Act, Line, call_count};
 use std::alloc::{AllocError, Global};
@@ -22,7 +22,7 @@ pub struct CallLines {
 impl Model for CallLines {
     ghost use Rattle.std.specs.Prelude.{List};
     ghost use Rattle.calls.specs.declared.line.Line.{Line as LineOf};
-    ghost use Rattle.script.specs.Counts.{AreCounted};
+    ghost use Rattle.script_lines.specs.Counts.{AreCounted};
 
     ghost Value = { List LineOf };
 

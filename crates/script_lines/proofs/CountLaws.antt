@@ -9,7 +9,7 @@ use Rattle.calls.specs.declared.line.Act.TheVariants as act
 use Rattle.calls.specs.declared.line.Line.{Line}
 use Rattle.calls.specs.declared.line.Line.TheVariants.{Task, Tick}
 use Rattle.calls.specs.Lines.{is_tick, call_count, tick_count}
-use Rattle.script.specs.Counts.{are_alike, count_alike, AreCounted}
+use Rattle.script_lines.specs.Counts.{are_alike, count_alike, AreCounted}
 
 one_alike : (l line : Line) → count_alike l (line ∷ []) ≡ cond (are_alike l line) 1 0
 one_alike l line =

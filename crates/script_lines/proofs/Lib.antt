@@ -1,0 +1,4 @@
+pub mod CallerLemmas
+mod CountLaws
+mod StringLaws
+mod ClassHeadLaws
