@@ -2,6 +2,7 @@
 //! written as a word and its fields, by one table.
 #![tactic(auto)]
 
+mod ask;
 mod call;
 mod config;
 mod entry;
@@ -10,6 +11,7 @@ mod line;
 mod reply;
 mod word;
 
+pub use ask::Ask;
 pub use call::Call;
 pub use config::Config;
 pub use entry::Entry;

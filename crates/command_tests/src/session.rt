@@ -7,6 +7,7 @@ use gui_core::Gui;
 use scene::Stack;
 use script::{Script, read};
 use std::alloc::Global;
+use std::marker::Model;
 use std::test::*;
 
 /// The most calls that a session is opened for.
@@ -15,10 +16,20 @@ const ROOM: u32 = 1_000;
 /// The task that makes the calls.
 const TASK: u16 = 1;
 
-/// A core whose calls one task makes.
+/// A core that is its own display, whose calls one task makes.
 #[derive(Drop)]
 pub struct Session {
     gui: Gui,
+}
+
+impl Model for Session {
+    ghost use Rattle.std.specs.Prelude.{IsTrue};
+
+    ghost Value = { Unit {0} };
+
+    ghost view = { λ s. tt };
+
+    ghost invariant = { λ s. IsTrue s.gui.drawer.alone };
 }
 
 impl Session {

@@ -22,7 +22,7 @@ use Rattle.desk.specs.Desks.{Desk, Step, Objection, is_context_call, objections,
 use Rattle.surfaces.specs.Turns.{none_free}
 use Rattle.gui_core.specs.States.{State, desk_of, buffer_objections, objections_to, effect_of, step_of_call, step}
 use Rattle.gui_core.specs.Machines.{Machine, Counts, IsUnmade}
-use Rattle.gui_core.specs.Histories.{says_full, is_entered}
+use Rattle.gui_core.specs.Histories.{Core, state_of, with_mark_of, RecordsCall, says_full, is_entered}
 use Rattle.gui_core.proofs.SceneryLemmas.{nothing_refuses}
 
 -- an objection to a call that is entered
@@ -130,6 +130,10 @@ step_is_entered setup s actor call = by_refusal (refusal_of (objections_to setup
 pub counted_is_entered : (old new : Machine) (actor : ℕ) (call : Call) (reply : Reply) → Counts old actor call new reply → is_entered reply ≡ true
 unfolding step
 counted_is_entered old new actor call reply counts = ap (λ (step : Step State). is_entered step.reply) counts.step ∙ step_is_entered old.setup old.state actor call
+
+pub records_are_entered : (old : Core) (actor : ℕ) (call : Call) (new : Core) (reply : Reply) → RecordsCall old actor call new reply → is_entered reply ≡ true
+unfolding step
+records_are_entered old actor call new reply is = ap is_entered is.enters.reply_is ∙ step_is_entered old.chronicle.setup (state_of (with_mark_of is.mark old.chronicle)) actor call
 
 -- an entered call had room and memory
 pub entered_parts : (reply : Reply) → is_entered reply ≡ true → (says_full reply ≡ false) × (is_want_of_memory reply ≡ false)

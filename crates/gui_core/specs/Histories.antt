@@ -1,10 +1,15 @@
 -- The core as its callers see it: what it was opened with, the history of its calls, and what these
 -- come to.
-use Rattle.std.specs.Prelude.{◌≡◌, ℕ, ◌+◌, ◌*◌, ◌≤◌, Bool, true, false, not, ◌&&◌, nat_le, Option, None, Some, if◌then◌else◌, List, [], ◌∷◌, ◌++◌, length, filter}
+use Rattle.std.specs.Prelude.{◌≡◌, ℕ, ◌+◌, ◌*◌, ◌≤◌, Bool, true, false, not, ◌&&◌, nat_le, Option, None, Some, is_some, IsTrue, if◌then◌else◌, List, [], ◌∷◌, ◌++◌, length, filter}
 use Rattle.std.specs.List.{AllByRecursion}
 use Rattle.std.specs.Option.{option_map_or}
 use Rattle.paint_ops.specs.Kinds.{Assets}
-use Rattle.multibuf.specs.Screens.{number_waiting}
+use Rattle.flip.specs.declared.views.Drawing.{Drawing}
+use Rattle.flip.specs.Indexes.{confirmed_by}
+use Rattle.flip.specs.Drawers.{new_drawing, after_look}
+use Rattle.flip.specs.Display.{IsDisplay}
+use Rattle.multibuf.specs.Screens.{Screen, number_waiting, number_confirmed}
+use Rattle.surfaces.specs.Panes.{Finds}
 use Rattle.calls.specs.Actors.{fits}
 use Rattle.calls.specs.declared.config.Config.{Config}
 use Rattle.calls.specs.declared.call.Call.{Call}
@@ -17,7 +22,9 @@ use Rattle.desk.specs.Setups.{Setup, setup_for}
 use Rattle.desk.specs.Desks.{refusal_of, is_refused, is_want_of_memory}
 use Rattle.gui_core.specs.States.{State, opening, step, state_after, objections_to}
 use Rattle.gui_core.specs.Machines.{Machine, makes_device}
-use Rattle.surfaces.specs.Turns.{waiting_count}
+use Rattle.surfaces.specs.Turns.{waiting_count, none_free}
+use Rattle.calls.specs.declared.ask.Ask.{Ask}
+use Rattle.calls.specs.declared.ask.Ask.TheVariants.{Free, Still}
 
 -- what the core was opened with, and all entries so far, in order
 pub record Chronicle : Type 0 where
@@ -25,8 +32,20 @@ pub record Chronicle : Type 0 where
   pub history : List Entry
 
 -- before the first call
-abbrev pub starting : Assets → Config → Chronicle
-starting assets config = record { setup = setup_for assets config; history = [] }
+abbrev pub unwritten : Assets → Config → Chronicle
+unwritten assets config = record { setup = setup_for assets config; history = [] }
+
+-- the core as its callers see it: its chronicle, and what its drawer knows of the display
+pub record Core : Type 0 where
+  pub chronicle : Chronicle
+  pub drawer : Drawing
+
+-- before the first call, alone or with a controller of its own
+abbrev pub starting : Bool → Assets → Config → Core
+starting alone assets config = record {
+  chronicle = unwritten assets config;
+  drawer = new_drawing alone config.buffers;
+}
 
 -- what the entries come to, one after the other
 abbrev pub state_of : Chronicle → State
@@ -97,13 +116,6 @@ says_full reply = false
 abbrev pub is_entered : Reply → Bool
 is_entered reply = not (says_full reply) && not (is_want_of_memory reply)
 
--- a call came into the history, and its reply is that of the step at its place
-pub record Answers (old : Chronicle) (actor : ℕ) (call : Call) (new : Chronicle)
-    (reply : Reply) : Type 0 where
-  pub setup : new.setup ≡ old.setup
-  pub history : new.history ≡ old.history ++ entry.Call actor call ∷ []
-  pub reply_is : reply ≡ (step old.setup (state_of old) (entry.Call actor call)).reply
-
 -- the call makes a device, and nothing is held against it
 pub record MayMakeDevice (c : Chronicle) (actor : ℕ) (call : Call) : Type 0 where
   pub makes : makes_device call ≡ true
@@ -113,9 +125,53 @@ pub record MayMakeDevice (c : Chronicle) (actor : ℕ) (call : Call) : Type 0 wh
 abbrev pub mark_of : Option ℕ → List Entry
 mark_of waiting = option_map_or (λ k. entry.Shown k ∷ []) waiting []
 
+-- with the mark of a switch, if there is one
+abbrev pub with_mark_of : Option ℕ → Chronicle → Chronicle
+with_mark_of mark c = record c { history = c.history ++ mark_of mark }
+
 -- with the mark of what waits
 abbrev pub ticked : Chronicle → Chronicle
-ticked c = record c { history = c.history ++ mark_of (number_waiting (state_of c).screen) }
+ticked c = with_mark_of (number_waiting (state_of c).screen) c
+
+-- A call came into the history, and its reply is that of the step at its place.
+pub record Enters (old : Chronicle) (actor : ℕ) (call : Call) (new : Chronicle)
+    (reply : Reply) : Type 0 where
+  pub setup : new.setup ≡ old.setup
+  pub history : new.history ≡ old.history ++ entry.Call actor call ∷ []
+  pub reply_is : reply ≡ (step old.setup (state_of old) (entry.Call actor call)).reply
+
+-- the switch that a look found confirmed, if it found one
+abbrev pub number_seen : Core → Drawing → Option ℕ
+number_seen old new =
+    number_confirmed (confirmed_by old.drawer.waiting new.found) (state_of old.chronicle).screen
+
+-- A look at the display entered the mark of the switch that it found confirmed, if it found one.
+-- A core that is its own display finds none.
+pub record Looked (old new : Core) : Type 0 where
+  pub drawer : new.drawer ≡ after_look old.drawer new.drawer.found
+  pub display : (shown : ℕ) × IsDisplay old.drawer shown new.drawer.found
+  pub chronicle : new.chronicle ≡ with_mark_of (number_seen old new.drawer) old.chronicle
+  pub alone : IsTrue old.drawer.alone → number_seen old new.drawer ≡ None
+
+-- A call came into the history. Where it ended drawing, it may have found a switch confirmed by then,
+-- whose mark stands before it.
+pub record RecordsCall (old : Core) (actor : ℕ) (call : Call) (new : Core) (reply : Reply) : Type 0 where
+  pub mark : Option ℕ
+  pub finds : Finds old.drawer (state_of old.chronicle).screen new.drawer mark
+  pub enters : Enters (with_mark_of mark old.chronicle) actor call new.chronicle reply
+
+-- A call that was answered so looked at the display first, and then came into the history.
+pub record Answers (old : Core) (actor : ℕ) (call : Call) (new : Core)
+    (reply : Reply) : Type 0 where
+  pub looked : Core
+  pub look : Looked old looked
+  pub records : RecordsCall looked actor call new reply
+
+-- what a question asks for holds of a screen of so many buffers: a call that begins would find one
+-- to draw on, or no switch waits
+abbrev pub answer_to : Ask → ℕ → Screen → Bool
+answer_to Free n s = not (is_some (refusal_of (none_free n s)))
+answer_to Still n s = not (is_some (number_waiting s))
 
 -- ---- the machine
 
@@ -130,3 +186,8 @@ pub record IsRecorded (m : Machine) (history : List Entry) (capacity : ℕ) : Ty
       ≤ m.made + m.state.screen.switches
   pub switches : m.state.screen.switches ≤ m.made
   pub room : 2 * m.setup.config.calls ≤ capacity
+
+-- It is so between calls, and no mark is left to be entered.
+pub record IsCore (m : Machine) (history : List Entry) (capacity : ℕ) : Type 0 where
+  pub recorded : IsRecorded m history capacity
+  pub fresh : m.marked ≡ None

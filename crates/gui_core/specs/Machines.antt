@@ -1,6 +1,6 @@
 -- The core's state with what it was opened with, and how calls are counted. Of these, contracts of
 -- public functions name `IsConfig` alone.
-use Rattle.std.specs.Prelude.{◌≡◌, ℕ, ◌+◌, ◌≤◌, Bool, true, false, None, if◌then◌else◌, ◌==◌, length, Result, Ok, Err}
+use Rattle.std.specs.Prelude.{◌≡◌, ℕ, ◌+◌, ◌≤◌, Bool, true, false, Option, None, if◌then◌else◌, ◌==◌, length, Result, Ok, Err}
 use Rattle.paint_ops.specs.Kinds.{Assets}
 use Rattle.paint_ops.specs.Soundness.{IsSound}
 use Rattle.desk.specs.Scenes.{IsScene}
@@ -15,29 +15,35 @@ use Rattle.desk.specs.Desks.{Desk, Step, refusal_of, desk_step, is_refused}
 use Rattle.gui_core.specs.States.{State, desk_of, opening, objections_to, step_of_call, step}
 use Rattle.calls.specs.declared.reply.Reply.TheVariants.{Done, Refused}
 use Rattle.calls.specs.declared.reply.Refusal.{Refusal}
+use Rattle.flip.specs.declared.views.Drawing.{Drawing}
+use Rattle.flip.specs.Drawers.{new_drawing}
 use Rattle.surfaces.specs.Turns.{IsScreen}
+use Rattle.surfaces.specs.Panes.{Panes, switched, Finds}
 
--- what it was opened with, how many buffers there are and their sides, its state, how many calls
--- were made, and how many of them were refused
+-- what it was opened with, what its drawer knows of the display, the sides of the buffers, its
+-- state, which switch the last end found confirmed, how many calls were made, and how many of them
+-- were refused
 pub record Machine : Type 0 where
   pub setup : Setup
-  pub buffers : ℕ
+  pub drawer : Drawing
   pub width : ℕ
   pub height : ℕ
   pub state : State
+  pub marked : Option ℕ
   pub made : ℕ
   pub refused : ℕ
 
 -- before the first call
-abbrev pub machine_for : Assets → Config → Machine
-machine_for assets config =
+abbrev pub machine_for : Bool → Assets → Config → Machine
+machine_for alone assets config =
     let setup = setup_for assets config in
     record {
       setup = setup;
-      buffers = config.buffers;
+      drawer = new_drawing alone config.buffers;
       width = config.w;
       height = config.h;
       state = opening setup;
+      marked = None;
       made = 0;
       refused = 0;
     }
@@ -72,12 +78,49 @@ pub record Makes (old : Machine) (actor : ℕ) (call : Call) (new : Machine)
 pub record MakesAlike (old : Machine) (call : Call) (new : Machine) (reply : Reply) : Type 0 where
   pub by : (actor : ℕ) → Makes old actor call new reply
 
+-- what it draws on
+abbrev pub panes_of : Machine → Panes
+panes_of m = record {
+  drawer = m.drawer;
+  width = m.width;
+  height = m.height;
+  screen = m.state.screen;
+  devices = m.state.devices;
+  marked = m.marked;
+}
+
+-- it with other buffers and devices
+abbrev pub with_panes : Machine → Panes → Machine
+with_panes m p = record m {
+  drawer = p.drawer;
+  width = p.width;
+  height = p.height;
+  state = record m.state { screen = p.screen; devices = p.devices };
+  marked = p.marked;
+}
+
+-- the machine that a call found, with the mark of the switch that it found confirmed
+abbrev pub with_mark : Machine → Machine → Machine
+with_mark new old = with_panes old (switched (panes_of new) (panes_of old))
+
+-- a call that may draw took one step, after the mark of the switch that it found confirmed, and
+-- isn't counted yet
+pub record Turns (old : Machine) (actor : ℕ) (call : Call) (new : Machine)
+    (reply : Reply) : Type 0 where
+  pub finds : Finds old.drawer old.state.screen new.drawer new.marked
+  pub makes : Makes (with_mark new old) actor call new reply
+
+-- such a call takes the same step whoever makes it
+pub record TurnsAlike (old : Machine) (call : Call) (new : Machine) (reply : Reply) : Type 0 where
+  pub by : (actor : ℕ) → Turns old actor call new reply
+
 -- jobs left this desk, and drew its picture if there were any
 pub record Paints (old : Machine) (jobs : ℕ) (d : Desk) (new : Machine) : Type 0 where
   pub rest : new ≡ record old { state = new.state }
   pub desk : desk_of new.state ≡ d
   pub screen : new.state.screen ≡
-      (if jobs == 0 then old.state.screen else after_draw old.buffers d.picture old.state.screen)
+      (if jobs == 0 then old.state.screen else after_draw old.drawer.buffers d.picture
+      old.state.screen)
 
 -- a call took one step, and was counted
 pub record Counts (old : Machine) (actor : ℕ) (call : Call) (new : Machine)
@@ -104,8 +147,8 @@ pub record IsKept (m : Machine) : Type 0 where
   pub config : IsConfig m.setup.config
   pub assets : IsSound m.setup.assets
   pub has_desktop : 1 ≤ length m.setup.assets.classes
-  pub buffers : m.buffers ≡ m.setup.config.buffers
-  pub screen : IsScreen m.buffers m.state.screen
+  pub buffers : m.drawer.buffers ≡ m.setup.config.buffers
+  pub screen : IsScreen m.drawer.buffers m.state.screen
   pub width : m.width ≡ m.setup.config.w
   pub height : m.height ≡ m.setup.config.h
   pub scene : IsScene m.setup m.state.windows m.state.handles

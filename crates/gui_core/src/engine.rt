@@ -6,6 +6,7 @@ ghost use Rattle.paint_ops.specs.Soundness.{IsSound};
 use calls::{Call, Config, Refusal, Reply};
 use context::Contexts;
 use desk::{Change, ContextChange};
+use flip::Controller;
 use frame::Frame;
 use gfx_base::{Memory, Rect};
 use invalidate::first_invalid;
@@ -36,7 +37,7 @@ impl Model for Engine {
 
     ghost view = { λ g. record {
       setup = record { config = g.config; assets = g.assets };
-      buffers = g.surfaces.buffers;
+      drawer = g.surfaces.drawer;
       width = g.surfaces.width;
       height = g.surfaces.height;
       state = record {
@@ -46,13 +47,14 @@ impl Model for Engine {
         contexts = g.contexts;
         devices = g.surfaces.devices;
       };
+      marked = g.surfaces.marked;
       made = g.made;
       refused = g.refused;
     } };
 
     ghost invariant = { λ g. IsKept (record {
       setup = record { config = g.config; assets = g.assets };
-      buffers = g.surfaces.buffers;
+      drawer = g.surfaces.drawer;
       width = g.surfaces.width;
       height = g.surfaces.height;
       state = record {
@@ -62,6 +64,7 @@ impl Model for Engine {
         contexts = g.contexts;
         devices = g.surfaces.devices;
       };
+      marked = g.surfaces.marked;
       made = g.made;
       refused = g.refused;
     }) };
@@ -108,7 +111,7 @@ fn answered(answer: Result<(), Refusal>) -> Reply
 }
 
 impl Engine {
-    ghost use Rattle.std.specs.Prelude.{Some, position};
+    ghost use Rattle.std.specs.Prelude.{Some, None, Bool, true, false, not, is_some, position, IsTrue, OnOk};
     ghost use Rattle.multibuf.specs.Screens.{number_waiting, after_mark};
     ghost use Rattle.desk.specs.Setups.{painter};
     ghost use Rattle.invalidate.specs.Invalidation.{is_invalid};
@@ -116,20 +119,30 @@ impl Engine {
     ghost use Rattle.desk.specs.Jobs.{jobs_of};
     ghost use Rattle.calls.specs.declared.call.Call.TheVariants.{Begin, End, Exec, Exec1, DevCreate, DevDelete, DevCopy, SetMemdev};
     ghost use Rattle.desk.specs.Changes.{call_for, context_call, stroke_call};
-    ghost use Rattle.surfaces.specs.Panes.{IsBegun, ended, Begins};
-    ghost use Rattle.desk.specs.Desks.{after_job, after_jobs};
+    ghost use Rattle.surfaces.specs.Panes.{panes_for, IsBegun, ended, Begins, Finds, LooksAt};
+    ghost use Rattle.desk.specs.Desks.{after_job, after_jobs, refusal_of};
     ghost use Rattle.gui_core.specs.States.{desk_of};
-    ghost use Rattle.gui_core.specs.Machines.{IsConfig, Takes, TakesAlike, Makes, MakesAlike, Paints, Counts, IsUnmade, machine_for};
+    ghost use Rattle.surfaces.specs.Turns.{none_free, IsScreen};
+    ghost use Rattle.flip.specs.Controllers.{new_showing};
+    ghost use Rattle.flip.specs.Drawers.{after_own_tick};
+    ghost use Rattle.gui_core.specs.Machines.{IsConfig, Takes, TakesAlike, MakesAlike, Turns, TurnsAlike, Paints, Counts, IsUnmade, machine_for, panes_of, with_panes, with_mark};
 
-    /// The desktop alone, which is invalid, on black buffers. In the place of class 0 comes the
+    /// The desktop alone, which is invalid, on these surfaces. In the place of class 0 comes the
     /// desktop's: the configuration's colour alone.
-    pub fn open(alloc: Global, assets: Assets, config: Config) -> Result<Engine, Memory>
+    fn around(
+        alloc: Global,
+        surfaces: Surfaces,
+        assets: Assets,
+        config: Config,
+    ) -> Result<Engine, Memory>
         requires config { IsConfig config }
         requires assets { IsSound assets }
         requires desktop { 1 ≤ length assets.classes }
-        ensures { IfOk result (λ engine. engine ≡ machine_for assets config) }
+        requires surfaces { (alone : Bool) × (surfaces
+            ≡ panes_for alone config.w config.h config.buffers) }
+        ensures { (alone : Bool) → surfaces ≡ panes_for alone config.w config.h config.buffers
+            → IfOk result (λ engine. engine ≡ machine_for alone assets config) }
     {
-        let surfaces = Surfaces::open(alloc, config.w, config.h, config.buffers)?;
         let windows = Windows::open(alloc, config.w, config.h)?;
         let assets = with_desktop(alloc, assets, &config);
         let contexts = Contexts::new();
@@ -142,6 +155,35 @@ impl Engine {
             made: 0,
             refused: 0,
         })
+    }
+
+    /// The desktop alone, which is invalid, on black buffers, and the side of their display that
+    /// shows. In the place of class 0 comes the desktop's: the configuration's colour alone.
+    pub fn open(
+        alloc: Global,
+        assets: Assets,
+        config: Config,
+    ) -> Result<(Engine, Controller), Memory>
+        requires config { IsConfig config }
+        requires assets { IsSound assets }
+        requires desktop { 1 ≤ length assets.classes }
+        ensures engine { IfOk result (λ sides. sides.0 ≡ machine_for false assets config) }
+        ensures controller { IfOk result (λ sides. sides.1 ≡ new_showing config.buffers) }
+    {
+        let (surfaces, controller) = Surfaces::open(alloc, config.w, config.h, config.buffers)?;
+        let engine = Engine::around(alloc, surfaces, assets, config)?;
+        Ok((engine, controller))
+    }
+
+    /// The same, shown by `tick` alone.
+    pub fn open_alone(alloc: Global, assets: Assets, config: Config) -> Result<Engine, Memory>
+        requires config { IsConfig config }
+        requires assets { IsSound assets }
+        requires desktop { 1 ≤ length assets.classes }
+        ensures { IfOk result (λ engine. engine ≡ machine_for true assets config) }
+    {
+        let surfaces = Surfaces::open_alone(alloc, config.w, config.h, config.buffers)?;
+        Engine::around(alloc, surfaces, assets, config)
     }
 
     /// How many calls may be made.
@@ -209,14 +251,15 @@ impl Engine {
     fn next_job(&self) -> Option<usize>
         ensures next { result ≡ position is_invalid self.now.state.windows }
         ensures few { length self.now.state.windows ≤ 256 }
-        ensures buffers { self.now.buffers ≡ self.now.setup.config.buffers }
+        ensures buffers { self.now.drawer.buffers ≡ self.now.setup.config.buffers }
+        ensures pictures { IsScreen self.now.drawer.buffers self.now.state.screen }
     {
         first_invalid(self.windows.stack())
     }
 
     fn do_job(&mut self, which: usize)
         requires first { position is_invalid self.old.state.windows ≡ Some which }
-        requires begun { IsBegun self.old.buffers self.old.state.screen }
+        requires begun { IsBegun self.old.drawer.buffers self.old.state.screen }
         ensures { Paints self.old 1 (after_job self.old.setup (desk_of self.old.state)) self.new }
     {
         self.surfaces
@@ -227,7 +270,7 @@ impl Engine {
     /// Paints until no window is invalid, and tells how many jobs that took. Drawing was begun, or
     /// there is one buffer.
     fn do_jobs(&mut self) -> u16
-        requires begun { IsBegun self.old.buffers self.old.state.screen }
+        requires begun { IsBegun self.old.drawer.buffers self.old.state.screen }
         ensures jobs { result ≡ jobs_of self.old.state.windows }
         ensures desk { Paints self.old result (after_jobs self.old.setup
             (jobs_of self.old.state.windows) (desk_of self.old.state)) self.new }
@@ -242,7 +285,7 @@ impl Engine {
 
     /// Begins drawing where it isn't begun, and tells whether it did.
     fn begin_own(&mut self) -> Result<bool, Refusal>
-        ensures screen { Begins result self.old.buffers self.old.state.screen
+        ensures screen { Begins result self.old.drawer.buffers self.old.state.screen
             self.new.state.screen }
         ensures rest { self.new ≡ record self.old {
           state = record self.old.state { screen = self.new.state.screen };
@@ -254,9 +297,12 @@ impl Engine {
     /// Ends drawing, which was begun, where a call began by itself.
     fn end_own(&mut self, own: bool)
         requires begun { self.old.state.screen.count ≢ 0 }
+        requires fresh { self.old.marked ≡ None }
         requires room { self.old.state.screen.switches < self.old.made }
-        ensures { self.new ≡ record self.old {
-          state = record self.old.state { screen = ended own self.old.state.screen };
+        ensures finds { let new = self.new in
+            Finds self.old.drawer self.old.state.screen new.drawer new.marked }
+        ensures ended { let mid = with_mark self.new self.old in self.new ≡ record mid {
+          state = record mid.state { screen = ended own mid.state.screen };
         } }
     {
         self.surfaces.end_own(own);
@@ -264,8 +310,9 @@ impl Engine {
 
     /// Does all jobs, on what it begins for them if there are any and nothing was begun.
     fn exec(&mut self) -> Reply
-        requires { self.old.state.screen.switches < self.old.made }
-        ensures { MakesAlike self.old Exec self.new result }
+        requires fresh { self.old.marked ≡ None }
+        requires room { self.old.state.screen.switches < self.old.made }
+        ensures { TurnsAlike self.old Exec self.new result }
     {
         if self.next_job().is_none() {
             return Reply::Jobs(0);
@@ -281,8 +328,9 @@ impl Engine {
 
     /// Does the first job, if there is one, in the same way.
     fn exec1(&mut self) -> Reply
-        requires { self.old.state.screen.switches < self.old.made }
-        ensures { MakesAlike self.old Exec1 self.new result }
+        requires fresh { self.old.marked ≡ None }
+        requires room { self.old.state.screen.switches < self.old.made }
+        ensures { TurnsAlike self.old Exec1 self.new result }
     {
         let Some(which) = self.next_job() else {
             return Reply::Jobs(0);
@@ -303,20 +351,55 @@ impl Engine {
     }
 
     fn end(&mut self) -> Reply
-        requires { self.old.state.screen.switches < self.old.made }
-        ensures { MakesAlike self.old End self.new result }
+        requires fresh { self.old.marked ≡ None }
+        requires room { self.old.state.screen.switches < self.old.made }
+        ensures { TurnsAlike self.old End self.new result }
     {
         answered(self.surfaces.end())
     }
 
-    /// Shows what waits, and gives the number of its switch.
+    /// Shows what waits, and gives the number of its switch, where the engine was opened alone.
     pub fn tick(&mut self) -> Option<u32>
+        requires { IsTrue self.old.drawer.alone }
         ensures switch { result ≡ number_waiting self.old.state.screen }
+        ensures drawer { self.new.drawer ≡ after_own_tick self.old.drawer self.new.drawer.found }
         ensures shown { self.new ≡ record self.old {
+          drawer = self.new.drawer;
           state = record self.old.state { screen = after_mark result self.old.state.screen };
         } }
     {
         self.surfaces.tick()
+    }
+
+    /// Looks at the display, and gives the number of the switch that was confirmed since.
+    pub fn look(&mut self) -> Option<u32>
+        ensures looked { LooksAt (panes_of self.old) (panes_of self.new) result }
+        ensures rest { self.new ≡ with_panes self.old (panes_of self.new) }
+    {
+        self.surfaces.look()
+    }
+
+    /// The switch that the last call found confirmed where it ended, which it tells once.
+    pub fn take_mark(&mut self) -> Option<u32>
+        ensures mark { result ≡ self.old.marked }
+        ensures rest { self.new ≡ record self.old { marked = None } }
+    {
+        self.surfaces.take_mark()
+    }
+
+    /// Whether a call that begins by itself would find a buffer to draw on.
+    pub fn is_free(&self) -> bool
+        ensures { result ≡ not (is_some (refusal_of
+            (none_free self.now.setup.config.buffers self.now.state.screen))) }
+    {
+        self.config.buffers != 2 || self.surfaces.count() > 0 || self.surfaces.waiting().is_none()
+    }
+
+    /// Whether no switch waits.
+    pub fn is_still(&self) -> bool
+        ensures { result ≡ not (is_some (number_waiting self.now.state.screen)) }
+    {
+        self.surfaces.waiting().is_none()
     }
 
     fn create(&mut self, new: &NewWindow) -> Reply
@@ -405,8 +488,9 @@ impl Engine {
 
     fn stroke(&mut self, task: u16, shape: &Shape) -> Reply
         requires task { (1 ≤ task) × (task ≤ 16) }
+        requires fresh { self.old.marked ≡ None }
         requires room { self.old.state.screen.switches < self.old.made }
-        ensures { Makes self.old task (stroke_call shape.now) self.new result }
+        ensures { Turns self.old task (stroke_call shape.now) self.new result }
     {
         answered(
             self.surfaces.draw(
@@ -420,8 +504,9 @@ impl Engine {
 
     fn copy_device(&mut self, actor: u16, device: u32, x: i16, y: i16) -> Reply
         requires actor { (1 ≤ actor) × (actor ≤ 16) }
+        requires fresh { self.old.marked ≡ None }
         requires room { self.old.state.screen.switches < self.old.made }
-        ensures { Makes self.old actor (DevCopy device x y) self.new result }
+        ensures { Turns self.old actor (DevCopy device x y) self.new result }
     {
         answered(
             self.surfaces.copy(
@@ -464,7 +549,8 @@ impl Engine {
         requires handles { self.old.state.handles ≤ self.old.made }
         requires devices { self.old.state.devices.handles < self.old.made }
         requires switches { self.old.state.screen.switches < self.old.made }
-        ensures made { IfOk result (λ reply. Makes self.old actor call.now self.new reply) }
+        requires fresh { self.old.marked ≡ None }
+        ensures made { IfOk result (λ reply. Turns self.old actor call.now self.new reply) }
         ensures unmade { OnErr result (IsUnmade self.old actor call.now self.new) }
     {
         Ok(match *call {
@@ -540,7 +626,11 @@ impl Engine {
     pub fn apply(&mut self, alloc: Global, actor: u16, call: &Call) -> Result<Reply, Memory>
         requires actor { (1 ≤ actor) × (actor ≤ 16) }
         requires room { self.old.made < self.old.setup.config.calls }
-        ensures made { IfOk result (λ reply. Counts self.old actor call.now self.new reply) }
+        requires fresh { self.old.marked ≡ None }
+        ensures finds { let new = self.new in
+            OnOk result (Finds self.old.drawer self.old.state.screen new.drawer new.marked) }
+        ensures made { IfOk result (λ reply.
+            Counts (with_mark self.new self.old) actor call.now self.new reply) }
         ensures unmade { OnErr result (IsUnmade self.old actor call.now self.new) }
     {
         self.made += 1;

@@ -3,7 +3,7 @@ use Rattle.std.proofs.Common.{◌≡◌, ℕ, ◌+◌, ◌<◌, ◌≤◌, Bool,
 use Rattle.std.proofs.Math.Nat.{zero-add}
 use Rattle.std.proofs.lemmas.List.{at_drop_more, at_drop_all, append-nil}
 use Rattle.std.proofs.lemmas.Bool.{lt-leb}
-use Rattle.std.specs.Prelude.{is_some}
+use Rattle.std.specs.Prelude.{is_some, not, ◌&&◌}
 use Rattle.std.proofs.lemmas.List.Folds.{list_any_at}
 use Rattle.std.proofs.lemmas.List.Elements.{filter-append}
 use Rattle.outside.specs.Logs.{SinkLog, Whole}
@@ -25,9 +25,9 @@ use Rattle.desk.specs.Setups.{Setup, setup_for, painter}
 use Rattle.multibuf.specs.Screens.{number_waiting}
 use Rattle.desk.specs.Desks.{is_want_of_memory}
 use Rattle.gui_core.specs.States.{State, opening, step, state_after}
-use Rattle.gui_core.proofs.CallerLemmas.{painting_moves_nothing, state-append, refusals-append, calls-append, answers-state, entered}
+use Rattle.gui_core.proofs.CallerLemmas.{painting_moves_nothing, state-append, refusals-append, calls-append, enters-state, entered}
 use Rattle.gui_core.specs.Promises.{changes_windows, window_calls}
-use Rattle.gui_core.specs.Histories.{Chronicle, starting, state_of, refusals, refused_of, calls_in, marks_in, mark_of, ticked, is_full, says_full, is_entered, Answers}
+use Rattle.gui_core.specs.Histories.{Chronicle, unwritten, state_of, refusals, refused_of, calls_in, marks_in, mark_of, ticked, is_full, says_full, is_entered, Enters}
 use Rattle.mtgui_top.specs.declared.play.Stop.{Stop}
 use Rattle.mtgui_top.specs.declared.play.Stop.TheVariants as stop
 use Rattle.mtgui_top.specs.Outcome.{LineEnds, LinesEnd}
@@ -89,14 +89,23 @@ count_first line lines = by_test (is_call line) refl where
   by_test false is = rw is (sym (zero-add (call_count lines)))
 
 -- a call for which there is room, and memory, came into the history, and what is written for it is its line's answer
-pub call_ends : (old new : Chronicle) (task : ℕ) (call : Call) (reply : Reply) (shown : Picture) → HasRoom old (Task task (act.Call call)) → says_full reply ≡ is_full old → is_want_of_memory reply ≡ false → (is_entered reply ≡ true → Answers old task call new reply) → shown ≡ (state_of new).screen.shown
+pub call_ends : (old new : Chronicle) (task : ℕ) (call : Call) (reply : Reply) (shown : Picture) → HasRoom old (Task task (act.Call call)) → says_full reply ≡ is_full old → is_want_of_memory reply ≡ false → (is_entered reply ≡ true → Enters old task call new reply) → shown ≡ (state_of new).screen.shown
     → LineDone old (Task task (act.Call call)) new × (reply_text call reply shown ≡ answer_text old.setup (state_of old) (Task task (act.Call call)))
 call_ends old new task call reply shown room full memory answers is =
     let a = answers (entered reply (full ∙ lt-leb old.setup.config.calls (calls_in old.history) (omega (arith, room))) memory) in
     let now = step old.setup (state_of old) (entry.Call task call) in (
       record { setup = a.setup; history = a.history },
-      ap (λ (p : Picture). reply_text call reply p) (is ∙ ap (λ (s : State). s.screen.shown) (answers-state old new task call reply a)) ∙ ap (λ (r : Reply). reply_text call r now.state.screen.shown) a.reply_is,
+      ap (λ (p : Picture). reply_text call reply p) (is ∙ ap (λ (s : State). s.screen.shown) (enters-state old new task call reply a)) ∙ ap (λ (r : Reply). reply_text call r now.state.screen.shown) a.reply_is,
     )
+
+-- a call without memory is left out
+pub left_without_memory : (reply : Reply) → is_want_of_memory reply ≡ true → is_entered reply ≡ false
+left_without_memory reply want = by_full (says_full reply) (is_want_of_memory reply) want
+  where
+    by_full : (full memory : Bool) → memory ≡ true → (not full && not memory) ≡ false
+    by_full true memory is = refl
+    by_full false true is = refl
+    by_full false false is = absurd cc
 
 -- a tick that was made
 pub tick_ends : (old new : Chronicle) (shown : Bool) → new ≡ ticked old → shown ≡ is_some (number_waiting (state_of old).screen) → LineDone old Tick new × (tick_text shown ≡ answer_text old.setup (state_of old) Tick)
@@ -249,7 +258,7 @@ window_calls-played setup s (line ∷ lines) =
     first s Tick = by_waiting (number_waiting s.screen)
 
 -- the painter's picture that is written for a script
-pub painted_text : (script : Script) (assets : Assets) (config : Config) (lines lent : List Line) (m n : Chronicle) (p : Picture) → assets ≡ script.assets → config ≡ script.config → lines ≡ script.lines → lent ≡ lines → m ≡ starting assets config
+pub painted_text : (script : Script) (assets : Assets) (config : Config) (lines lent : List Line) (m n : Chronicle) (p : Picture) → assets ≡ script.assets → config ≡ script.config → lines ≡ script.lines → lent ≡ lines → m ≡ unwritten assets config
     → n.setup ≡ m.setup → state_of n ≡ after_window_calls m.setup (state_of m) lent → p ≡ painter n.setup (state_of n).windows → frame_text p ≡ paint_text script
 painted_text script assets config lines lent m n p a k l same opened setup state is =
     let s = setup_for assets config in

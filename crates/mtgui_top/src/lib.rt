@@ -4,6 +4,7 @@
 mod command;
 pub mod laws;
 mod play;
+mod player;
 mod process;
 
 pub use play::plain_words;

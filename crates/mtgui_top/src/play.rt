@@ -26,8 +26,8 @@ ghost use Rattle.mtgui_top.specs.declared.play.Stop.{Stop};
 ghost use Rattle.mtgui_top.specs.declared.play.Finding.{Finding};
 
 use crate::command::{Verb, command};
+use crate::player::Player;
 use calls::{Act, Call, Entry, Line, Refusal, Reply, call_count};
-use gui_core::Gui;
 use journal::{write_fault, write_frame, write_reply, write_summary, write_tick};
 use outside::{ReadRefused, Sink, SinkFault, Store};
 use scene::Stack;
@@ -46,7 +46,7 @@ fn is_want_of_memory(reply: &Reply) -> bool
 fn perform_call<K: Sink>(
     alloc: Global,
     out: &mut K,
-    gui: &mut Gui,
+    gui: &mut Player,
     task: u16,
     call: &Call,
     taken: &mut Vec<u8>,
@@ -65,7 +65,7 @@ fn perform_call<K: Sink>(
 }
 
 /// Lets the display show what waits, and writes whether it showed anything.
-fn tick<K: Sink>(out: &mut K, gui: &mut Gui) -> Result<(), Stop>
+fn tick<K: Sink>(out: &mut K, gui: &mut Player) -> Result<(), Stop>
     ensures { LineEnds result gui.old Tick gui.new (K.log out.old) (K.log out.new) }
 {
     write_tick(out, gui.tick())?;
@@ -77,7 +77,7 @@ fn tick<K: Sink>(out: &mut K, gui: &mut Gui) -> Result<(), Stop>
 fn perform_line<K: Sink>(
     alloc: Global,
     out: &mut K,
-    gui: &mut Gui,
+    gui: &mut Player,
     line: &Line,
     taken: &mut Vec<u8>,
 ) -> Result<(), Stop>
@@ -107,7 +107,12 @@ fn mark_count(entries: &[Entry]) -> usize
 
 /// Does what lines say and writes what they are answered, and the summary; but ends where there is
 /// no memory for a device. The core was opened for as many calls, and made none so far.
-fn perform<K: Sink>(alloc: Global, out: &mut K, gui: &mut Gui, lines: &[Line]) -> Result<(), Stop>
+fn perform<K: Sink>(
+    alloc: Global,
+    out: &mut K,
+    gui: &mut Player,
+    lines: &[Line],
+) -> Result<(), Stop>
     requires fits { AllByRecursion FitsItsTask lines.now }
     requires fresh { IsFresh gui.old (call_count lines.now) }
     ensures { LinesEnd result gui.old.setup (state_of gui.old) lines.now (K.log out.old)
@@ -174,7 +179,7 @@ fn play_script<K: Sink>(alloc: Global, script: Script, out: &mut K) -> Result<()
         assets,
         lines,
     } = script;
-    let mut gui = Gui::open_alone(alloc, assets, config)?;
+    let mut gui = Player::open(alloc, assets, config)?;
     perform(alloc, out, &mut gui, &lines)
 }
 
@@ -223,7 +228,7 @@ fn changes_windows(line: &Line) -> bool
 }
 
 /// Makes a line's call, which may change windows, and so makes no device.
-fn make_call(alloc: Global, gui: &mut Gui, line: &Line, taken: &mut Vec<u8>)
+fn make_call(alloc: Global, gui: &mut Player, line: &Line, taken: &mut Vec<u8>)
     requires fits { FitsItsTask line.now }
     requires room { HasRoom gui.old line.now }
     requires windows { may_change line.now ≡ true }
@@ -240,7 +245,7 @@ fn make_call(alloc: Global, gui: &mut Gui, line: &Line, taken: &mut Vec<u8>)
 
 /// Makes those calls of lines that may change windows. The core was opened for as many, and made
 /// none so far.
-fn make_window_calls(alloc: Global, gui: &mut Gui, lines: &[Line])
+fn make_window_calls(alloc: Global, gui: &mut Player, lines: &[Line])
     requires fits { AllByRecursion FitsItsTask lines.now }
     requires fresh { IsFresh gui.old (call_count lines.now) }
     ensures setup { gui.new.setup ≡ gui.old.setup }
@@ -264,7 +269,7 @@ fn paint_script<K: Sink>(alloc: Global, script: Script, out: &mut K) -> Result<(
         assets,
         lines,
     } = script;
-    let mut gui = Gui::open_alone(alloc, assets, config)?;
+    let mut gui = Player::open(alloc, assets, config)?;
     make_window_calls(alloc, &mut gui, &lines);
     write_frame(out, &gui.into_painted())?;
     Ok(())

@@ -1,4 +1,5 @@
 mod DeviceLemmas
 mod SurfaceLemmas
 mod TurnLemmas
+mod MarkLemmas
 pub mod CallerLemmas

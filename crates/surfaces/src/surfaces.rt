@@ -1,8 +1,7 @@
 //! What is drawn on: the buffers of the screen, and the devices.
 
-ghost use Rattle.std.specs.Prelude.{◌≡◌, ◌≢◌, ◌+◌, ◌<◌, ◌≤◌, [], ◌∷◌, Some, None, Err, true, length, is_some, IfOk, IfErr, IfSome, OnOk, OnErr};
+ghost use Rattle.std.specs.Prelude.{◌≡◌, ◌≢◌, ◌+◌, ◌<◌, ◌≤◌, [], ◌∷◌, Some, None, Err, true, false, length, is_some, IsTrue, IfOk, IfErr, IfSome, OnOk, OnErr};
 ghost use Rattle.std.specs.List.{AllByRecursion};
-ghost use Rattle.frame.specs.Pictures.{picture_of};
 ghost use Rattle.paint_ops.specs.Soundness.{IsSound, IsOperation};
 ghost use Rattle.scene.specs.Looks.{IsPaintable};
 ghost use Rattle.scene.specs.Places.{AreSingle};
@@ -10,10 +9,13 @@ ghost use Rattle.scene.specs.Damage.{repainted};
 ghost use Rattle.strokes.specs.Strokes.{operation_of, colour_of_stroke, colour_of_copy, stroked, inked_whole};
 ghost use Rattle.calls.specs.declared.reply.Refusal.TheVariants as Refused;
 ghost use Rattle.desk.specs.Devices.{no_device_pictures, picture_on, with_new_device, without_device, with_drawing};
-ghost use Rattle.multibuf.specs.Screens.{latest, number_waiting, after_begin, after_end, after_mark};
-ghost use Rattle.surfaces.specs.Turns.{showing, none_free, begin_objections, end_objections};
+ghost use Rattle.flip.specs.Controllers.{new_showing};
+ghost use Rattle.flip.specs.Drawers.{after_own_tick};
+ghost use Rattle.multibuf.specs.Buffering.{IsEven};
+ghost use Rattle.multibuf.specs.Screens.{screen_of, latest, number_waiting, after_begin, after_end, after_mark};
+ghost use Rattle.surfaces.specs.Turns.{none_free, begin_objections, end_objections, IsScreen};
 ghost use Rattle.desk.specs.Drawing.{Draw, Copy, with_ink};
-ghost use Rattle.surfaces.specs.Panes.{looks_on, IsBegun, with_drawn, with_turn, panes_after, pane_objections, ended, Begins};
+ghost use Rattle.surfaces.specs.Panes.{panes_for, looks_on, IsBegun, with_drawn, with_turn, panes_after, pane_objections, ended, Begins, switched, Finds, LooksAt};
 ghost use Rattle.surfaces.specs.Refusals.{Draws, Passes, device_refusal};
 ghost use Rattle.desk.specs.Desks.{refusal_of, no_window, no_device, shape_objections, making_objections};
 
@@ -21,6 +23,7 @@ use calls::Refusal;
 use context::Context;
 use desk::place_of;
 use exec_paint::job;
+use flip::Controller;
 use frame::Frame;
 use gfx_base::{Colour, Memory};
 use memdev::{DevRefused, Devices};
@@ -41,6 +44,8 @@ pub struct Surfaces {
     /// What windows are composed in before they show. It has the screen's sides.
     composed: Frame,
     devices: Devices,
+    /// The switch that the last end found confirmed.
+    marked: Option<u32>,
 }
 
 impl Model for Surfaces {
@@ -51,11 +56,12 @@ impl Model for Surfaces {
     ghost Value = { Panes };
 
     ghost view = { λ s. record {
-      buffers = s.buffers.drawer.buffers;
+      drawer = s.buffers.drawer;
       width = s.buffers.width;
       height = s.buffers.height;
       screen = screen_of s.buffers;
       devices = seen_devices s.devices;
+      marked = s.marked;
     } };
 
     ghost invariant = { λ s. AreFit s.buffers s.composed };
@@ -95,26 +101,58 @@ fn device_refusal(refused: DevRefused) -> Refusal
 }
 
 impl Surfaces {
-    /// Black buffers of these sides in points, from 1 to 3 of them, and no device.
-    pub fn open(alloc: Global, w: u16, h: u16, buffers: u8) -> Result<Surfaces, Memory>
+    /// These buffers, whose sides in points are told once more, and no device.
+    fn around(alloc: Global, buffers: Buffers, w: u16, h: u16) -> Result<Surfaces, Memory>
         requires width { (1 ≤ w) × (w ≤ 1024) }
         requires height { (1 ≤ h) × (h ≤ 768) }
-        requires buffers { (1 ≤ buffers) × (buffers ≤ 3) }
+        requires sides { (buffers.width ≡ w) × (buffers.height ≡ h) }
+        requires even { IsEven buffers }
         ensures { IfOk result (λ surfaces. surfaces ≡ record {
-          buffers = buffers;
-          width = w;
-          height = h;
-          screen = showing (picture_of w h (λ x y. 0));
+          drawer = buffers.drawer;
+          width = buffers.width;
+          height = buffers.height;
+          screen = screen_of buffers;
           devices = no_device_pictures;
+          marked = None;
         }) }
     {
-        let buffers = Buffers::open_alone(alloc, w, h, buffers)?;
         let composed = Frame::new(alloc, w, h)?;
         Ok(Surfaces {
             buffers,
             composed,
             devices: Devices::new(),
+            marked: None,
         })
+    }
+
+    /// Black buffers of these sides in points, from 1 to 3 of them, and no device; and the side of
+    /// their display that shows.
+    pub fn open(
+        alloc: Global,
+        w: u16,
+        h: u16,
+        buffers: u8,
+    ) -> Result<(Surfaces, Controller), Memory>
+        requires width { (1 ≤ w) × (w ≤ 1024) }
+        requires height { (1 ≤ h) × (h ≤ 768) }
+        requires buffers { (1 ≤ buffers) × (buffers ≤ 3) }
+        ensures surfaces { IfOk result (λ sides. sides.0 ≡ panes_for false w h buffers) }
+        ensures controller { IfOk result (λ sides. sides.1 ≡ new_showing buffers) }
+    {
+        let (buffers, controller) = Buffers::open(alloc, w, h, buffers)?;
+        let surfaces = Surfaces::around(alloc, buffers, w, h)?;
+        Ok((surfaces, controller))
+    }
+
+    /// The same, shown by `tick` alone.
+    pub fn open_alone(alloc: Global, w: u16, h: u16, buffers: u8) -> Result<Surfaces, Memory>
+        requires width { (1 ≤ w) × (w ≤ 1024) }
+        requires height { (1 ≤ h) × (h ≤ 768) }
+        requires buffers { (1 ≤ buffers) × (buffers ≤ 3) }
+        ensures { IfOk result (λ surfaces. surfaces ≡ panes_for true w h buffers) }
+    {
+        let buffers = Buffers::open_alone(alloc, w, h, buffers)?;
+        Surfaces::around(alloc, buffers, w, h)
     }
 
     /// The picture that is shown.
@@ -122,6 +160,20 @@ impl Surfaces {
         ensures { result.now.picture ≡ self.now.screen.shown }
     {
         self.buffers.shown()
+    }
+
+    /// How often drawing was begun and not ended, at most 100 times.
+    pub fn count(&self) -> u8
+        ensures { result ≡ self.now.screen.count }
+    {
+        self.buffers.count()
+    }
+
+    /// The number of the switch that waits.
+    pub fn waiting(&self) -> Option<u32>
+        ensures { result ≡ number_waiting self.now.screen }
+    {
+        self.buffers.waiting()
     }
 
     /// What windows are composed in, alone.
@@ -133,6 +185,7 @@ impl Surfaces {
             buffers: _,
             composed,
             devices: _,
+            marked: _,
         } = self;
         composed
     }
@@ -140,8 +193,9 @@ impl Surfaces {
     /// Begins drawing.
     pub fn begin(&mut self) -> Result<(), Refusal>
         ensures { let old = self.old in
-            Draws result (refusal_of (begin_objections old.buffers old.screen))
-            (record old { screen = after_begin old.buffers old.screen }) old self.new }
+            let n = old.drawer.buffers in
+            Draws result (refusal_of (begin_objections n old.screen))
+            (record old { screen = after_begin n old.screen }) old self.new }
     {
         match self.buffers.begin() {
             Ok(()) => Ok(()),
@@ -150,22 +204,28 @@ impl Surfaces {
         }
     }
 
-    /// Ends drawing.
+    /// Ends drawing, and keeps which switch was found confirmed by then, for `take_mark`.
     pub fn end(&mut self) -> Result<(), Refusal>
-        requires { self.old.screen.switches < 4294967295 }
-        ensures { let old = self.old in
-            Draws result (refusal_of (end_objections old.screen))
-            (record old { screen = after_end old.screen }) old self.new }
+        requires fresh { self.old.marked ≡ None }
+        requires room { self.old.screen.switches < 4294967295 }
+        ensures finds { let new = self.new in
+            Finds self.old.drawer self.old.screen new.drawer new.marked }
+        ensures ended { let mid = switched self.new self.old in
+            Draws result (refusal_of (end_objections self.old.screen))
+            (record mid { screen = after_end mid.screen }) self.old self.new }
     {
         match self.buffers.end() {
-            Ok(_) => Ok(()),
+            Ok(confirmed) => {
+                self.marked = confirmed;
+                Ok(())
+            }
             Err(NotOpen) => Err(Refusal::NotOpen),
         }
     }
 
     /// Begins drawing where it isn't begun, and tells whether it did.
     pub fn begin_own(&mut self) -> Result<bool, Refusal>
-        ensures screen { Begins result self.old.buffers self.old.screen self.new.screen }
+        ensures screen { Begins result self.old.drawer.buffers self.old.screen self.new.screen }
         ensures rest { self.new ≡ record self.old { screen = self.new.screen } }
     {
         if self.buffers.count() > 0 {
@@ -178,8 +238,12 @@ impl Surfaces {
     /// Ends drawing, which was begun, where a call began by itself.
     pub fn end_own(&mut self, own: bool)
         requires begun { self.old.screen.count ≢ 0 }
+        requires fresh { self.old.marked ≡ None }
         requires room { self.old.screen.switches < 4294967295 }
-        ensures { self.new ≡ record self.old { screen = ended own self.old.screen } }
+        ensures finds { let new = self.new in
+            Finds self.old.drawer self.old.screen new.drawer new.marked }
+        ensures ended { let mid = switched self.new self.old in
+            self.new ≡ record mid { screen = ended own mid.screen } }
     {
         if own {
             let ended = self.end().is_ok();
@@ -187,10 +251,30 @@ impl Surfaces {
         }
     }
 
-    /// Shows what waits, and gives the number of its switch.
+    /// The switch that the last end found confirmed, which it tells once.
+    pub fn take_mark(&mut self) -> Option<u32>
+        ensures mark { result ≡ self.old.marked }
+        ensures rest { self.new ≡ record self.old { marked = None } }
+    {
+        self.marked.take()
+    }
+
+    /// Looks at the display, and gives the number of the switch that was confirmed since.
+    pub fn look(&mut self) -> Option<u32>
+        ensures { LooksAt self.old self.new result }
+    {
+        self.buffers.see()
+    }
+
+    /// Shows what waits, and gives the number of its switch, where the surfaces were opened alone.
     pub fn tick(&mut self) -> Option<u32>
+        requires { IsTrue self.old.drawer.alone }
         ensures switch { result ≡ number_waiting self.old.screen }
-        ensures shown { self.new ≡ record self.old { screen = after_mark result self.old.screen } }
+        ensures drawer { self.new.drawer ≡ after_own_tick self.old.drawer self.new.drawer.found }
+        ensures shown { self.new ≡ record self.old {
+          drawer = self.new.drawer;
+          screen = after_mark result self.old.screen;
+        } }
     {
         self.buffers.tick()
     }
@@ -204,7 +288,7 @@ impl Surfaces {
 
     /// Paints the window at `which`. Drawing was begun, or there is one buffer.
     pub fn paint(&mut self, stack: &[Win], which: usize, assets: &Assets)
-        requires begun { IsBegun self.old.buffers self.old.screen }
+        requires begun { IsBegun self.old.drawer.buffers self.old.screen }
         requires assets { IsSound assets.now }
         requires few { length stack.now ≤ 256 }
         requires windows { AllByRecursion (IsPaintable assets.now) stack.now }
@@ -232,7 +316,7 @@ impl Surfaces {
         shape: &Shape,
         assets: &Assets,
     )
-        requires begun { IsBegun self.old.buffers self.old.screen }
+        requires begun { IsBegun self.old.drawer.buffers self.old.screen }
         requires assets { IsSound assets.now }
         requires few { length stack.now ≤ 256 }
         requires windows { AllByRecursion (IsPaintable assets.now) stack.now }
@@ -255,18 +339,23 @@ impl Surfaces {
         shape: &Shape,
         assets: &Assets,
     ) -> Result<(), Refusal>
+        requires fresh { self.old.marked ≡ None }
+        requires pictures { IsScreen self.old.drawer.buffers self.old.screen }
         requires room { self.old.screen.switches < 4294967295 }
         requires assets { IsSound assets.now }
         requires few { length stack.now ≤ 256 }
         requires windows { AllByRecursion (IsPaintable assets.now) stack.now }
         requires single { AreSingle stack.now }
         requires shape { IsOperation assets.now (operation_of context.now shape.now) }
-        ensures { let old = self.old in
-            let looks = looks_on assets.now stack.now old in
+        ensures finds { let new = self.new in
+            Finds self.old.drawer self.old.screen new.drawer new.marked }
+        ensures drawn { let mid = switched self.new self.old in
+            let looks = looks_on assets.now stack.now mid in
             let ink = colour_of_stroke assets.now context.now shape.now in
             Draws result
-            (refusal_of (no_window stack.now context.now.window ∷ none_free old.buffers old.screen))
-            (with_turn old (with_ink looks stack.now context.now ink (latest old.screen))) old
+            (refusal_of (no_window stack.now context.now.window
+            ∷ none_free self.old.drawer.buffers self.old.screen))
+            (with_turn mid (with_ink looks stack.now context.now ink (latest mid.screen))) self.old
             self.new }
     {
         let Some(at) = place_of(stack, context.window) else {
@@ -309,15 +398,20 @@ impl Surfaces {
         shape: &Shape,
         assets: &Assets,
     ) -> Result<(), Refusal>
+        requires fresh { self.old.marked ≡ None }
+        requires pictures { IsScreen self.old.drawer.buffers self.old.screen }
         requires room { self.old.screen.switches < 4294967295 }
         requires assets { IsSound assets.now }
         requires few { length stack.now ≤ 256 }
         requires windows { AllByRecursion (IsPaintable assets.now) stack.now }
         requires single { AreSingle stack.now }
-        ensures { let work = Draw shape.now in
+        ensures finds { let new = self.new in
+            Finds self.old.drawer self.old.screen new.drawer new.marked }
+        ensures drawn { let work = Draw shape.now in
             Draws result
             (refusal_of (pane_objections assets.now stack.now context.now work self.old))
-            (panes_after assets.now stack.now context.now work self.old) self.old self.new }
+            (panes_after assets.now stack.now context.now work (switched self.new self.old))
+            self.old self.new }
     {
         check_shape(shape, context, assets)?;
         if context.device == SCREEN {
@@ -329,7 +423,7 @@ impl Surfaces {
 
     /// Copies a device's picture onto what was begun, in the window at a place. The device lives.
     fn copy_shown(&mut self, stack: &[Win], at: usize, device: u32, x: i16, y: i16, assets: &Assets)
-        requires begun { IsBegun self.old.buffers self.old.screen }
+        requires begun { IsBegun self.old.drawer.buffers self.old.screen }
         requires live { is_some (picture_on self.old.devices.live device) ≡ true }
         requires assets { IsSound assets.now }
         requires few { length stack.now ≤ 256 }
@@ -357,15 +451,20 @@ impl Surfaces {
         y: i16,
         assets: &Assets,
     ) -> Result<(), Refusal>
+        requires fresh { self.old.marked ≡ None }
+        requires pictures { IsScreen self.old.drawer.buffers self.old.screen }
         requires room { self.old.screen.switches < 4294967295 }
         requires assets { IsSound assets.now }
         requires few { length stack.now ≤ 256 }
         requires windows { AllByRecursion (IsPaintable assets.now) stack.now }
         requires single { AreSingle stack.now }
-        ensures { let work = Copy device x y in
+        ensures finds { let new = self.new in
+            Finds self.old.drawer self.old.screen new.drawer new.marked }
+        ensures copied { let work = Copy device x y in
             Draws result
             (refusal_of (pane_objections assets.now stack.now context.now work self.old))
-            (panes_after assets.now stack.now context.now work self.old) self.old self.new }
+            (panes_after assets.now stack.now context.now work (switched self.new self.old))
+            self.old self.new }
     {
         if !self.has_device(device) {
             return Err(Refusal::NoDevice(device));

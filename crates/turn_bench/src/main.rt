@@ -8,6 +8,7 @@ use gui_core::Gui;
 use script::{Script, read};
 use std::alloc::{AllocError, Global};
 use std::env;
+use std::marker::Model;
 use std::process::ExitCode;
 
 /// The lines of the header before and after the number of buffers. The class has a bar.
@@ -24,11 +25,21 @@ const TASK: u16 = 1;
 /// How many windows there are beside the desktop.
 const WINDOWS: u32 = 12;
 
-/// A core whose calls one task makes, and how many jobs it did.
+/// A core that is its own display, whose calls one task makes, and how many jobs it did.
 #[derive(Drop)]
 struct Session {
     gui: Gui,
     jobs: u32,
+}
+
+impl Model for Session {
+    ghost use Rattle.std.specs.Prelude.{IsTrue};
+
+    ghost Value = { Unit {0} };
+
+    ghost view = { λ s. tt };
+
+    ghost invariant = { λ s. IsTrue s.gui.drawer.alone };
 }
 
 fn header(alloc: Global, buffers: u8) -> Result<String, AllocError> {

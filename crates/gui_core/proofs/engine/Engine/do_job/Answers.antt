@@ -27,8 +27,8 @@ panes_are c =
     (subst (λ (k : Machine). position is_invalid k.state.windows ≡ Some c.args.which) (sym c.self.view_is) c.requires.first)
     c.stack.ensures c.self.invariant.width c.self.invariant.height refl)
 
-begun : (c : goal.After-make_valid) → IsBegun (before c).buffers (before c).state.screen
-begun c = subst (λ (k : Machine). IsBegun k.buffers k.state.screen) (sym c.self.view_is) c.requires.begun
+begun : (c : goal.After-make_valid) → IsBegun (before c).drawer.buffers (before c).state.screen
+begun c = subst (λ (k : Machine). IsBegun k.drawer.buffers k.state.screen) (sym c.self.view_is) c.requires.begun
 
 pub invariant_of-self : goal.invariant_of-self
 invariant_of-self c = rw (c.make_valid.ensures, panes_are c) (kept-job (before c) (painted c) c.self.invariant (begun c))
@@ -39,7 +39,7 @@ returns c =
       rest = refl;
       desk =
           ap (λ (p : Picture). record { windows = windows_after_job (before c).state.windows; handles = (before c).state.handles; picture = p; contexts = (before c).state.contexts; devices = (before c).state.devices })
-          (latest-draw (before c).buffers (painted c) (before c).state.screen c.self.invariant.screen);
+          (latest-draw (before c).drawer.buffers (painted c) (before c).state.screen c.self.invariant.screen);
       screen = refl;
     })
 

@@ -10,7 +10,7 @@ abbrev pub invariant-loop-which : goal.invariant-loop-which
 invariant-loop-which l = record {
   count : length l.self.state.windows ≡ length l.fn.self.state.windows;
   paints : Paints l.fn.self l.jobs (desk_of l.self.state) l.self;
-  begun : IsBegun l.self.buffers l.self.state.screen;
+  begun : IsBegun l.self.drawer.buffers l.self.state.screen;
   jobs : l.jobs + jobs_of l.self.state.windows ≡ jobs_of l.fn.self.state.windows;
   desk : after_jobs l.fn.self.setup (jobs_of l.self.state.windows) (desk_of l.self.state) ≡ after_jobs l.fn.self.setup (jobs_of l.fn.self.state.windows) (desk_of l.fn.self.state);
 }

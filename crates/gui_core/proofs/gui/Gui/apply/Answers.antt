@@ -1,32 +1,42 @@
-use Rattle.std.proofs.Common.{sym, ap, ◌∙◌}
+use Rattle.std.proofs.Common.{refl, sym, ap, subst, ◌∙◌}
 use Rattle.std.proofs.lemmas.Bool.{false≢true}
-use Rattle.gui_core.specs.Histories.{is_full}
-use Rattle.gui_core.specs.contracts.gui.Gui.{the_view}
-use Rattle.gui_core.proofs.WantLemmas.{counted_is_entered, entered_parts}
-use Rattle.gui_core.proofs.HistoryLemmas.{recorded-more, has_room, fits_call}
+use Rattle.gui_core.specs.Histories.{Core, Looked, MayMakeDevice}
+use Rattle.gui_core.proofs.WantLemmas.{records_are_entered, entered_parts}
+use Rattle.gui_core.proofs.HistoryLemmas.{look-full, look-stays_alone, records-stays_alone}
 use Rattle.gui_core.proofs.gui.Gui.apply.Goals as goal
 
-pub enter-requires : goal.enter-requires
-enter-requires c =
-    let free = has_room (the_view c.self.inside) (ap is_full c.self.view_is ∙ sym c.is_full.ensures ∙ c.if-is_full.false) in
-    fits_call c.self.inside.engine c.self.inside.history.items _ c.self.invariant free
+pub returns-then-is_full : goal.returns-then-is_full
+returns-then-is_full c = record {
+  full = c.if-is_full.ensures ∙ look-full c.args.self.now c.look.new.self c.look.ensures;
+  answers = λ e. absurd cc;
+  left_out = λ e. c.look.ensures;
+  unmade = λ e. absurd cc;
+  alone = look-stays_alone c.args.self.now c.look.new.self c.look.ensures;
+  bytes = refl;
+}
 
-pub invariant_of-self : goal.invariant_of-self
-invariant_of-self c =
-    let m = c.self.inside.engine in
-    let history = c.self.inside.history.items in
-    let free = has_room (the_view c.self.inside) (ap is_full c.self.view_is ∙ sym c.is_full.ensures ∙ c.if-is_full.false) in
-    rw (c.enter.ensures.items, c.enter.ensures.capacity, c.copy.ensures)
-    (recorded-more m c.apply.new.self history _ c.args.actor c.args.call.now c.in-Ok.reply c.self.invariant free c.requires.fits c.in-Ok.ensures.made)
+pub returns-in-Ok : goal.returns-in-Ok
+returns-in-Ok c =
+    let made = c.in-Ok.ensures.made in
+    let is = records_are_entered c.look.new.self c.args.actor c.args.call.now c.make.new.self c.in-Ok.answer made in
+    let parts = entered_parts c.in-Ok.answer is in
+    record {
+      full = parts.0 ∙ c.if-is_full.ensures ∙ look-full c.args.self.now c.look.new.self c.look.ensures;
+      answers = λ e. record { looked = c.look.new.self; look = c.look.ensures; records = made };
+      left_out = λ out. absurd (false≢true (sym out ∙ is));
+      unmade = λ want. absurd (false≢true (sym parts.1 ∙ want));
+      alone = records-stays_alone c.look.new.self c.make.new.self c.args.actor c.args.call.now c.in-Ok.answer made ∙ look-stays_alone c.args.self.now c.look.new.self c.look.ensures;
+      bytes = refl;
+    }
 
-pub returns-in-Ok-clause-full : goal.returns-in-Ok-clause-full
-returns-in-Ok-clause-full c =
-    (entered_parts c.in-Ok.reply (counted_is_entered _ _ _ _ c.in-Ok.reply c.in-Ok.ensures.made)).0 ∙ sym c.if-is_full.false ∙ c.is_full.ensures
-
-pub returns-in-Ok-clause-left_out : goal.returns-in-Ok-clause-left_out
-returns-in-Ok-clause-left_out c =
-    λ out. absurd (false≢true (sym out ∙ counted_is_entered _ _ _ _ c.in-Ok.reply c.in-Ok.ensures.made))
-
-pub returns-in-Ok-clause-unmade : goal.returns-in-Ok-clause-unmade
-returns-in-Ok-clause-unmade c =
-    λ want. absurd (false≢true (sym (entered_parts c.in-Ok.reply (counted_is_entered _ _ _ _ c.in-Ok.reply c.in-Ok.ensures.made)).1 ∙ want))
+pub returns-in-Err : goal.returns-in-Err
+returns-in-Err c =
+    let same = c.in-Err.ensures.unmade in
+    record {
+      full = c.if-is_full.ensures ∙ look-full c.args.self.now c.look.new.self c.look.ensures;
+      answers = λ e. absurd cc;
+      left_out = λ e. subst (λ (k : Core). Looked c.args.self.now k) (sym same) c.look.ensures;
+      unmade = λ e. subst (λ (k : Core). MayMakeDevice k.chronicle c.args.actor c.args.call.now) (sym same) c.in-Err.ensures.device;
+      alone = ap (λ (k : Core). k.drawer.alone) same ∙ look-stays_alone c.args.self.now c.look.new.self c.look.ensures;
+      bytes = refl;
+    }

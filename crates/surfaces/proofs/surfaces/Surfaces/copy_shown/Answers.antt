@@ -19,5 +19,5 @@ returns-in-Some c =
     let there = ap (λ (p : Panes). picture_on p.devices.live c.args.device) (sym c.self.view_is) ∙ seen c.self.inside.devices c.args.device c.in-Some.from.now (sym c.get.ensures.frame ∙ ap option_copied c.in-Some.is) in
     let b = c.self.inside.buffers in
     rw there
-    (drawn_by b c.self.inside.devices c.args.self.now c.copy.new.target _ c.self.view_is (c.target.ensures.screen c.copy.new.target)
-    (copied_on c.args.assets.now c.args.stack.now b c.self.inside.devices c.args.self.now c.target.result.now c.args.at (colour_of_copy c.in-Some.from.now.picture c.args.x c.args.y) _ c.self.view_is c.target.ensures.sides c.target.ensures.picture (rw (to_z-of_z w16 c.args.x c.ranges.x, to_z-of_z w16 c.args.y c.ranges.y) at c.copy.ensures.picture)))
+    (drawn_by b c.self.inside.devices c.self.inside.marked c.args.self.now c.copy.new.target _ c.self.view_is (c.target.ensures.screen c.copy.new.target)
+    (copied_on c.args.assets.now c.args.stack.now b c.self.inside.devices c.self.inside.marked c.args.self.now c.target.result.now c.args.at (colour_of_copy c.in-Some.from.now.picture c.args.x c.args.y) _ c.self.view_is c.target.ensures.sides c.target.ensures.picture (rw (to_z-of_z w16 c.args.x c.ranges.x, to_z-of_z w16 c.args.y c.ranges.y) at c.copy.ensures.picture)))
