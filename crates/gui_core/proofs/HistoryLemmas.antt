@@ -1,5 +1,5 @@
 -- Entries that come into the history, one after the other.
-use Rattle.std.proofs.Common.{◌≡◌, ℕ, ◌+◌, ◌<◌, ◌≤◌, true, false, cond, eqb, List, [], ◌∷◌, ◌++◌, length, filter, Option, None, Some, leb, refl, sym, ap, subst, ◌∙◌, add-zero, append-nil, arith}
+use Rattle.std.proofs.Common.{◌≡◌, ℕ, ◌+◌, ◌<◌, ◌≤◌, true, false, cond, eqb, List, [], ◌∷◌, ◌++◌, length, filter, Option, None, Some, leb, refl, sym, ap, subst, ◌∙◌, inl, inr, add-zero, append-nil, arith}
 use Rattle.std.specs.List.{AllByRecursion}
 use Rattle.std.specs.Option.{option_map_or}
 use Rattle.std.proofs.Math.Nat.{zero-add}
@@ -16,7 +16,7 @@ use Rattle.desk.specs.Desks.{Step, is_refused, is_want_of_memory}
 use Rattle.surfaces.specs.Turns.{waits as waits_for, marked, waiting_count}
 use Rattle.gui_core.specs.States.{State, opening, step, state_after}
 use Rattle.gui_core.proofs.StateLemmas.{owes-call}
-use Rattle.std.specs.Prelude.{IsTrue}
+use Rattle.std.specs.Prelude.{◌⊎◌, IsTrue}
 use Rattle.flip.specs.declared.views.Drawing.{Drawing}
 use Rattle.flip.specs.Indexes.{confirmed_by}
 use Rattle.multibuf.specs.Screens.{Screen, number_waiting, number_confirmed, after_mark, IsOfWaiting}
@@ -91,6 +91,9 @@ recorded-more m new history room actor call reply is few fit counts =
       room = is.room;
     })
 
+marked_here : (k : ℕ) (s : Screen) → number_waiting s ≡ Some k → marked k s ≡ after_mark (Some k) s
+marked_here k s waits = let here : waits_for k s ≡ true = ap (λ (o : Option ℕ). option_map_or (λ j. eqb j k) o false) waits ∙ eq-eqb k k refl in rw here refl
+
 -- a mark is one entry more, which is no refusal
 pub recorded-mark : (m new : Machine) (history : List Entry) (room k : ℕ) → IsRecorded m history room → number_waiting m.state.screen ≡ Some k → new ≡ record m { state = record m.state { screen = after_mark (Some k) m.state.screen } } → IsRecorded new (history ++ entry.Shown k ∷ []) room
 unfolding step
@@ -115,9 +118,6 @@ recorded-mark m new history room k is waits is_new =
       switches = is.switches;
       room = is.room;
     })
-  where
-    marked_here : (k : ℕ) (s : Screen) → number_waiting s ≡ Some k → marked k s ≡ after_mark (Some k) s
-    marked_here k s waits = let here : waits_for k s ≡ true = ap (λ (o : Option ℕ). option_map_or (λ j. eqb j k) o false) waits ∙ eq-eqb k k refl in rw here refl
 
 -- there is room for one entry more
 pub fits_call : (m : Machine) (history : List Entry) (room : ℕ) → IsRecorded m history room → calls_in history < m.setup.config.calls → length history < room
@@ -286,6 +286,33 @@ make_records m history room actor call new last reply is =
             ∙ ap (λ (s : State). (step m.setup s (entry.Call actor call)).reply) (state_shown m history room new.marked is.core.recorded is.finds.waits);
       };
     }
+
+-- ---- one mark at most
+
+-- where a switch was made none waits
+nothing_left : (setup : Setup) (s : State) (k : ℕ) → number_waiting s.screen ≡ Some k → number_waiting (step setup s (entry.Shown k)).state.screen ≡ None
+unfolding step
+nothing_left setup s k waits = ap number_waiting (marked_here k s.screen waits)
+
+confirmed_waits : (found : Option ℕ) (s : Screen) (k : ℕ) → number_confirmed found s ≡ Some k → number_waiting s ≡ Some k
+confirmed_waits None s k is = absurd cc
+confirmed_waits (Some j) s k is = is
+
+none_of : (mark : Option ℕ) (s : Screen) → number_waiting s ≡ None → IsOfWaiting mark s → mark ≡ None
+none_of None s none waits = refl
+none_of (Some k) s none waits = absurd cc
+
+pub one_mark : (old looked new : Core) (actor : ℕ) (call : Call) (reply : Reply) → Looked old looked → (r : RecordsCall looked actor call new reply) → (number_seen old looked.drawer ≡ None) ⊎ (r.mark ≡ None)
+one_mark old looked new actor call reply look r = by_seen (number_seen old looked.drawer) refl
+  where
+    by_seen : (o : Option ℕ) → number_seen old looked.drawer ≡ o → (number_seen old looked.drawer ≡ None) ⊎ (r.mark ≡ None)
+    by_seen None is = inl is
+    by_seen (Some k) is =
+        let c = old.chronicle in
+        let waits = confirmed_waits (confirmed_by old.drawer.waiting looked.drawer.found) (state_of c).screen k is in
+        let after : state_of looked.chronicle ≡ (step c.setup (state_of c) (entry.Shown k)).state =
+        ap state_of (look.chronicle ∙ ap (λ (o : Option ℕ). with_mark_of o c) is) ∙ state-append c.setup (opening c.setup) c.history (entry.Shown k ∷ []) in
+        inr (none_of r.mark (state_of looked.chronicle).screen (ap (λ (s : State). number_waiting s.screen) after ∙ nothing_left c.setup (state_of c) k waits) r.finds.waits)
 
 -- ---- for callers
 

@@ -1,6 +1,6 @@
 -- The core as its callers see it: what it was opened with, the history of its calls, and what these
 -- come to.
-use Rattle.std.specs.Prelude.{◌≡◌, ℕ, ◌+◌, ◌*◌, ◌≤◌, Bool, true, false, not, ◌&&◌, nat_le, Option, None, Some, is_some, IsTrue, if◌then◌else◌, List, [], ◌∷◌, ◌++◌, length, filter}
+use Rattle.std.specs.Prelude.{◌≡◌, ◌⊎◌, ℕ, ◌+◌, ◌*◌, ◌≤◌, Bool, true, false, not, ◌&&◌, nat_le, Option, None, Some, is_some, IsTrue, if◌then◌else◌, List, [], ◌∷◌, ◌++◌, length, filter}
 use Rattle.std.specs.List.{AllByRecursion}
 use Rattle.std.specs.Option.{option_map_or}
 use Rattle.paint_ops.specs.Kinds.{Assets}
@@ -153,19 +153,22 @@ pub record Looked (old new : Core) : Type 0 where
   pub chronicle : new.chronicle ≡ with_mark_of (number_seen old new.drawer) old.chronicle
   pub alone : IsTrue old.drawer.alone → number_seen old new.drawer ≡ None
 
--- A call came into the history. Where it ended drawing, it may have found a switch confirmed by then,
--- whose mark stands before it.
-pub record RecordsCall (old : Core) (actor : ℕ) (call : Call) (new : Core) (reply : Reply) : Type 0 where
+-- A call came into the history. Where it ended drawing, it may have found a switch confirmed by
+-- then, whose mark stands before it.
+pub record RecordsCall (old : Core) (actor : ℕ) (call : Call) (new : Core)
+    (reply : Reply) : Type 0 where
   pub mark : Option ℕ
   pub finds : Finds old.drawer (state_of old.chronicle).screen new.drawer mark
   pub enters : Enters (with_mark_of mark old.chronicle) actor call new.chronicle reply
 
--- A call that was answered so looked at the display first, and then came into the history.
+-- A call that was answered so looked at the display first, and then came into the history. At most
+-- one switch was found confirmed, by the look or by the call's end.
 pub record Answers (old : Core) (actor : ℕ) (call : Call) (new : Core)
     (reply : Reply) : Type 0 where
   pub looked : Core
   pub look : Looked old looked
   pub records : RecordsCall looked actor call new reply
+  pub one : (number_seen old looked.drawer ≡ None) ⊎ (records.mark ≡ None)
 
 -- what a question asks for holds of a screen of so many buffers: a call that begins would find one
 -- to draw on, or no switch waits

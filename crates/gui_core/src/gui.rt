@@ -177,8 +177,8 @@ impl Gui {
         shown.is_some()
     }
 
-    /// Looks at the display, and enters the mark of the switch that was confirmed since, if one was.
-    /// A core that was opened alone finds none.
+    /// Looks at the display, and enters the mark of the switch that was confirmed since, if one
+    /// was. A core that was opened alone finds none.
     pub fn look(&mut self)
         ensures { Looked self.old self.new }
     {
@@ -230,11 +230,11 @@ impl Gui {
 
     /// Looks at the display, makes a call of an actor who may make it, enters it into the history,
     /// and gives its reply: that of the step at its place. A refused call changes nothing but the
-    /// history, of which it is a part too. A mark that the look or the call's end enters stands
-    /// before it.
+    /// history, of which it is a part too. At most one mark, which the look or the call's end
+    /// enters, stands before it.
     ///
-    /// Two replies tell that the call wasn't made and isn't entered, and then nothing changes but by
-    /// the look. `Full` comes just where as many calls were made as the core was opened for.
+    /// Two replies tell that the call wasn't made and isn't entered, and then nothing changes but
+    /// by the look. `Full` comes just where as many calls were made as the core was opened for.
     /// `Memory` comes where there is none for a device, though nothing else is held against it. No
     /// other call takes memory, and none of today gives bytes into `_room`.
     pub fn apply(&mut self, alloc: Global, actor: u16, call: &Call, _room: &mut Vec<u8>) -> Reply

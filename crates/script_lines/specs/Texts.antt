@@ -1,5 +1,5 @@
--- How the lines of a script are spelled that open classes, fonts and bitmaps, and its strings; and the
--- fields of its header.
+-- How the lines of a script are spelled that open classes, fonts and bitmaps, and its strings; and
+-- the fields of its header.
 use Rattle.std.specs.Prelude.{ℕ, ◌^◌, ◌<◌, IfSome, Option, None, ◌≤◌, List, [], ◌∷◌, Some, codes, decimal}
 use Rattle.spelling.specs.Digits.{hex_colour}
 use Rattle.spelling.specs.Words.{text_of_words}

@@ -104,8 +104,8 @@ switched new old = record old {
   marked = new.marked;
 }
 
--- What a call finds out of the display that drew on this screen: the drawer posted a buffer or none,
--- and where it posted one it may have found the switch confirmed that waited.
+-- What a call finds out of the display that drew on this screen: the drawer posted a buffer or
+-- none, and where it posted one it may have found the switch confirmed that waited.
 pub record Finds (d : Drawing) (s : Screen) (e : Drawing) (mark : Option ℕ) : Type 0 where
   pub posted : Option ℕ
   pub drawer : e ≡ drawer_posted d posted e.found
