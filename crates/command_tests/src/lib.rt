@@ -17,6 +17,8 @@ mod session;
 #[cfg(test)]
 mod shapes;
 #[cfg(test)]
+mod sides;
+#[cfg(test)]
 mod values;
 #[cfg(test)]
 mod windows;

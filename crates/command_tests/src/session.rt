@@ -92,7 +92,8 @@ impl Session {
     }
 }
 
-fn points_of(alloc: Global, picture: &Frame) -> Result<Vec<Colour>, Fail> {
+/// The points of a picture, row by row.
+pub fn points_of(alloc: Global, picture: &Frame) -> Result<Vec<Colour>, Fail> {
     let mut points = Vec::new(alloc);
     for y in 0..picture.height() {
         points.extend_from_slice(picture.row(y))?;
