@@ -150,28 +150,36 @@ fn draw_rows(op: &Op, w: &Window, spans: &[Span], assets: &Assets, frame: &mut F
     true
 }
 
-fn is_in_spans(spans: &[Span], x: u16) -> bool {
+/// How many of the spans have the column.
+fn spans_at(spans: &[Span], x: u16) -> usize {
     let x = i32::from(x);
-    spans.iter().any(|span| span.x0 <= x && x <= span.x1)
+    let at = spans.iter().filter(|span| span.x0 <= x && x <= span.x1);
+    at.count()
 }
 
-/// Whether the frame is red just where the spans have points that the operation covers, and else
-/// black.
+/// Whether the frame is red just where the spans have points that the operation covers, each
+/// written once for each span that has it, and else black.
 fn shows(op: &Op, w: &Window, spans: &[Span], assets: &Assets, frame: &Frame) -> bool {
+    let mut writes = 0u64;
     for y in 0..frame.height() {
         for x in 0..frame.width() {
             let p = (
                 i64::from(x) - i64::from(w.origin.x),
                 i64::from(y) - i64::from(w.origin.y),
             );
-            let inside = is_in_spans(spans, x) && covers(op, w, assets, p);
-            let want = if inside { red() } else { Colour::default() };
+            let times = if covers(op, w, assets, p) {
+                spans_at(spans, x)
+            } else {
+                0
+            };
+            let want = if 0 < times { red() } else { Colour::default() };
             if frame.get(x, y) != want {
                 return false;
             }
+            writes = writes.wrapping_add(times as u64);
         }
     }
-    true
+    frame.writes() == writes
 }
 
 /// Whether an operation draws what it should on a frame of 12 by 10 points, and draws the same with
@@ -447,11 +455,15 @@ fn far_ends_and_origins(rt: HostRuntime) {
     }
 }
 
-const SPANS: [(&str, &[Span]); 8] = [
+const SPANS: [(&str, &[Span]); 9] = [
     ("none", &[]),
     ("one", &[Span { x0: 2, x1: 6 }]),
     ("one point", &[Span { x0: 4, x1: 4 }]),
     ("two", &[Span { x0: 0, x1: 2 }, Span { x0: 5, x1: 8 }]),
+    (
+        "overlapping",
+        &[Span { x0: 1, x1: 5 }, Span { x0: 3, x1: 7 }],
+    ),
     ("touching", &[Span { x0: 1, x1: 3 }, Span { x0: 4, x1: 7 }]),
     (
         "the ends",

@@ -1,84 +1,15 @@
--- Points that are written once: how many the tests of two sets name together, and two writings, one after the other, as one.
-use Rattle.std.proofs.Common.{◌≡◌, ℕ, zero, suc, ◌+◌, ◌*◌, ◌/◌, ◌%◌, ◌^◌, ◌<◌, Bool, true, false, cond, ◌||◌, List, refl, sym, ap, ◌∙◌, arith}
-use Rattle.std.specs.List.{count_by, range_with_len}
-use Rattle.std.proofs.Math.Nat.{mod-add-mod, mod-eq_of_lt}
-use Rattle.std.proofs.lemmas.List.{map-id}
-use Rattle.std.proofs.lemmas.List.FromFn.{sum_by-map-range_with_len_more}
-use Rattle.std.proofs.lemmas.Nat.{div_below, mod_below}
+-- Points that are written once: two writings, one after the other, as one.
+use Rattle.std.proofs.Common.{◌≡◌, ℕ, ◌+◌, ◌%◌, ◌^◌, ◌<◌, Bool, true, false, cond, ◌||◌, refl, sym, ap, ◌∙◌}
 use Rattle.frame.specs.Areas.{points_in}
 use Rattle.frame.specs.Canvases.{Canvas}
 use Rattle.frame.specs.Pictures.{Picture, HasShape, changed}
-use Rattle.frame.proofs.CallerLemmas.{changed-none, changed-same, changed-changed}
+use Rattle.frame.proofs.CallerLemmas.{changed-none, changed-same, changed-changed, points_in-same, points_in-none, points_in-or, canvas_is, no_more, some_more}
 use Rattle.exec_paint.specs.Writes.{written_once}
-
--- ---- counts below a number
-
--- how many numbers below n pass
-abbrev count_below : (ℕ → Bool) → ℕ → ℕ
-count_below p n = count_by p (range_with_len 0 n)
-
-count_below-more : (p : ℕ → Bool) (n : ℕ) → count_below p (suc n) ≡ count_below p n + cond (p n) 1 0
-count_below-more p n =
-    let same = λ (m : ℕ). map-id (range_with_len 0 m) in
-    let e : suc n ≡ n + 1 = omega arith in
-    ap (count_below p) e ∙ sym (ap (count_by p) (same (n + 1))) ∙ sum_by-map-range_with_len_more (λ i. cond (p i) 1 0) (λ (i : ℕ). i) 0 n n (omega arith) ∙ ap (λ (l : List ℕ). count_by p l + cond (p n) 1 0) (same n)
-
-count_below-same : (p q : ℕ → Bool) (n : ℕ) → ((i : ℕ) → i < n → p i ≡ q i) → count_below p n ≡ count_below q n
-count_below-same p q zero same = refl
-count_below-same p q (suc n) same = count_below-more p n ∙ rw (same n (omega arith), count_below-same p q n (λ i lt. same i (omega arith))) (sym (count_below-more q n))
-
-count_below-none : (p : ℕ → Bool) (n : ℕ) → ((i : ℕ) → i < n → p i ≡ false) → count_below p n ≡ 0
-count_below-none p zero none = refl
-count_below-none p (suc n) none = count_below-more p n ∙ rw (none n (omega arith), count_below-none p n (λ i lt. none i (omega arith))) refl
-
-one_of : (a b : Bool) → (a ≡ true → b ≡ false) → cond (a || b) 1 0 ≡ cond a 1 0 + cond b 1 0
-one_of true b apart = rw (apart refl) refl
-one_of false true apart = refl
-one_of false false apart = refl
-
--- tests that no number passes both of
-count_below-or : (p q : ℕ → Bool) (n : ℕ) → ((i : ℕ) → i < n → p i ≡ true → q i ≡ false) → count_below (λ i. p i || q i) n ≡ count_below p n + count_below q n
-count_below-or p q zero apart = refl
-count_below-or p q (suc n) apart =
-    let rest = count_below-or p q n (λ i lt. apart i (omega arith)) in
-    let last : cond (p n || q n) 1 0 ≡ cond (p n) 1 0 + cond (q n) 1 0 = one_of (p n) (q n) (apart n (omega arith)) in
-    count_below-more (λ i. p i || q i) n ∙ omega (arith, count_below-more p n, count_below-more q n)
-
--- ---- points of a picture
-
--- tests that agree inside name as many points
-pub points_in-same : (p : Picture) (here there : ℕ → ℕ → Bool) → HasShape p → ((x y : ℕ) → x < p.width → y < p.height → here x y ≡ there x y) → points_in p here ≡ points_in p there
-unfolding points_in
-points_in-same p here there shape same = count_below-same _ _ (p.height * p.width) (λ i lt. same (i % p.width) (i / p.width) (mod_below i p.width shape.some_width) (div_below i p.width p.height shape.some_width lt))
-
-pub points_in-none : (p : Picture) (here : ℕ → ℕ → Bool) → HasShape p → ((x y : ℕ) → x < p.width → y < p.height → here x y ≡ false) → points_in p here ≡ 0
-unfolding points_in
-points_in-none p here shape none = count_below-none _ (p.height * p.width) (λ i lt. none (i % p.width) (i / p.width) (mod_below i p.width shape.some_width) (div_below i p.width p.height shape.some_width lt))
-
-points_in-or : (p : Picture) (here there : ℕ → ℕ → Bool) → HasShape p → ((x y : ℕ) → x < p.width → y < p.height → here x y ≡ true → there x y ≡ false) → points_in p (λ x y. here x y || there x y) ≡ points_in p here + points_in p there
-unfolding points_in
-points_in-or p here there shape apart =
-    count_below-or (λ i. here (i % p.width) (i / p.width)) (λ i. there (i % p.width) (i / p.width)) (p.height * p.width) (λ i lt. apart (i % p.width) (i / p.width) (mod_below i p.width shape.some_width) (div_below i p.width p.height shape.some_width lt))
 
 -- a change keeps the sides, and so what a test names
 points_in-changed : (p : Picture) (here there : ℕ → ℕ → Bool) (colour : ℕ → ℕ → ℕ) → points_in (changed p here colour) there ≡ points_in p there
 unfolding points_in
 points_in-changed p here there colour = refl
-
--- ---- writes
-
-canvas_is : (p q : Picture) (m n : ℕ) → p ≡ q → m ≡ n → ◌≡◌ {A = Canvas} (record { picture = p; writes = m }) (record { picture = q; writes = n })
-canvas_is p q m n e f = rw (e, f) refl
-
-pub no_more : (writes count : ℕ) → writes < 2 ^ 64 → count ≡ 0 → writes ≡ (writes + count) % 2 ^ 64
-no_more writes count below none =
-    let same : writes + count ≡ writes = omega (arith, none) in
-    sym (ap (λ (k : ℕ). k % 2 ^ 64) same ∙ mod-eq_of_lt below)
-
-some_more : (writes first second both : ℕ) → both ≡ first + second → ((writes + first) % 2 ^ 64 + second) % 2 ^ 64 ≡ (writes + both) % 2 ^ 64
-some_more writes first second both sum =
-    let all : writes + first + second ≡ writes + both = omega (arith, sum) in
-    mod-add-mod (writes + first) (2 ^ 64) second ∙ ap (λ (k : ℕ). k % 2 ^ 64) all
 
 -- nothing is written where the test names no point
 pub written-none : (f : Canvas) (here : ℕ → ℕ → Bool) (colour : ℕ → ℕ → ℕ) → HasShape f.picture → f.writes < 2 ^ 64 → ((x y : ℕ) → x < f.picture.width → y < f.picture.height → here x y ≡ false) → f ≡ written_once f here colour

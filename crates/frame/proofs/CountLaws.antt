@@ -69,13 +69,14 @@ pub points_in-same : (p : Picture) (here there : ℕ → ℕ → Bool) → HasSh
 unfolding points_in
 points_in-same p here there shape same = count_below-same _ _ (p.height * p.width) (λ i lt. same (i % p.width) (i / p.width) (mod_below i p.width shape.some_width) (div_below i p.width p.height shape.some_width lt))
 
-pub points_in-none : (p : Picture) (here : ℕ → ℕ → Bool) → ((x y : ℕ) → here x y ≡ false) → points_in p here ≡ 0
+pub points_in-none : (p : Picture) (here : ℕ → ℕ → Bool) → HasShape p → ((x y : ℕ) → x < p.width → y < p.height → here x y ≡ false) → points_in p here ≡ 0
 unfolding points_in
-points_in-none p here none = count_below-none _ (p.height * p.width) (λ i lt. none (i % p.width) (i / p.width))
+points_in-none p here shape none = count_below-none _ (p.height * p.width) (λ i lt. none (i % p.width) (i / p.width) (mod_below i p.width shape.some_width) (div_below i p.width p.height shape.some_width lt))
 
-pub points_in-or : (p : Picture) (here there : ℕ → ℕ → Bool) → ((x y : ℕ) → here x y ≡ true → there x y ≡ false) → points_in p (λ x y. here x y || there x y) ≡ points_in p here + points_in p there
+pub points_in-or : (p : Picture) (here there : ℕ → ℕ → Bool) → HasShape p → ((x y : ℕ) → x < p.width → y < p.height → here x y ≡ true → there x y ≡ false) → points_in p (λ x y. here x y || there x y) ≡ points_in p here + points_in p there
 unfolding points_in
-points_in-or p here there apart = count_below-or (λ i. here (i % p.width) (i / p.width)) (λ i. there (i % p.width) (i / p.width)) (p.height * p.width) (λ i lt. apart (i % p.width) (i / p.width))
+points_in-or p here there shape apart =
+    count_below-or (λ i. here (i % p.width) (i / p.width)) (λ i. there (i % p.width) (i / p.width)) (p.height * p.width) (λ i lt. apart (i % p.width) (i / p.width) (mod_below i p.width shape.some_width) (div_below i p.width p.height shape.some_width lt))
 
 -- a span
 span_inside : (w y x0 x1 i : ℕ) → x1 < w → y * w + min x0 (x1 + 1) ≤ i → i < y * w + (x1 + 1) → in_span y x0 x1 (i % w) (i / w) ≡ true
@@ -124,11 +125,11 @@ off_row col row y x0 x1 u v h =
 points_above : (p : Picture) (col row x0 x1 y0 end n : ℕ) → IsTile p col row x0 x1 y0 end → HasShape p → x1 < p.width → y0 + n ≤ end → points_in p (tile_above col row (y0 + n)) ≡ n * span_count x0 x1
 points_above p col row x0 x1 y0 end zero tile shape x1_in le =
     let first : y0 + 0 ≡ row * 16 = omega (arith, tile.top) in
-    rw first (points_in-none p (tile_above col row (row * 16)) (above_first col row) ∙ omega arith)
+    rw first (points_in-none p (tile_above col row (row * 16)) shape (λ u v _ _. above_first col row u v) ∙ omega arith)
 points_above p col row x0 x1 y0 end (suc n) tile shape x1_in le =
     let next : y0 + suc n ≡ y0 + n + 1 = omega arith in
     rw next (sym (points_in-same p (λ u v. in_span (y0 + n) x0 x1 u v || tile_above col row (y0 + n) u v) (tile_above col row (y0 + n + 1)) shape (λ u v u_in v_in. next_row p col row x0 x1 y0 end (y0 + n) u v tile u_in (omega arith) (omega arith)))
-    ∙ points_in-or p (in_span (y0 + n) x0 x1) (tile_above col row (y0 + n)) (off_row col row (y0 + n) x0 x1)
+    ∙ points_in-or p (in_span (y0 + n) x0 x1) (tile_above col row (y0 + n)) shape (λ u v _ _. off_row col row (y0 + n) x0 x1 u v)
     ∙ rw (points_in-span p (y0 + n) x0 x1 shape x1_in (omega (arith, tile.bottom)), points_above p col row x0 x1 y0 end n tile shape x1_in (omega arith)) (one_more n (span_count x0 x1)))
 
 pub points_in-tile : (p : Picture) (col row : ℕ) → HasShape p → col * 16 < p.width → row * 16 < p.height → points_in p (in_tile col row) ≡ tile_count p col row

@@ -3,3 +3,4 @@ mod CountLaws
 mod PictureLaws
 mod SpanLemmas
 mod TileLemmas
+mod WriteLemmas

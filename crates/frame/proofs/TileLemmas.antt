@@ -4,11 +4,12 @@ use Rattle.std.specs.Prelude.{nat_le, ◌==◌}
 use Rattle.std.proofs.Math.Bool.{and-true}
 use Rattle.std.proofs.lemmas.Bool.{cases_order}
 use Rattle.std.proofs.lemmas.Bool.Decides.{nat_tests}
-use native.Mathlib.Nat.{mod-add-mod, mul_comm}
+use native.Mathlib.Nat.{mul_comm}
 use Rattle.frame.specs.Pictures.{Picture, IsShape, HasShape}
 use Rattle.frame.specs.Areas.{in_span, in_tile, span_count, tile_count}
 use Rattle.frame.specs.Canvases.{Canvas, canvas, drawn}
 use Rattle.frame.proofs.PictureLaws.{changed-same, changed-changed, changed-none}
+use Rattle.frame.proofs.WriteLemmas.{canvas_is, no_more, some_more}
 
 -- the points of the tile above row y
 abbrev pub tile_above : ℕ → ℕ → ℕ → ℕ → ℕ → Bool
@@ -79,24 +80,20 @@ same_choice : (test : Bool) (a : ℕ) → cond test a a ≡ a
 same_choice true a = refl
 same_choice false a = refl
 
-same_parts : (p q : Picture) (m n : ℕ) → p ≡ q → m ≡ n → ◌≡◌ {A = Canvas} (record { picture = p; writes = m }) (record { picture = q; writes = n })
-same_parts p q m n e f = rw (e, f) refl
-
 -- nothing is written above the first row
 pub tile-start : (f : Canvas) (col row y0 n : ℕ) (colour : ℕ → ℕ → ℕ) → y0 ≡ row * 16 → HasShape f.picture → f.writes < 2 ^ 64 → n ≡ 0 → f ≡ drawn f (tile_above col row y0) colour n
 tile-start f col row y0 n colour top shape fits none =
     let picture = changed-none f.picture (tile_above col row y0) colour shape (λ u v u_in v_in. rw top (above_first col row u v)) in
-    same_parts _ _ _ _ (sym picture) (rw none (omega arith))
+    canvas_is _ _ _ _ (sym picture) (no_more f.writes n fits none)
 
 pub tile-row : (f : Canvas) (col row x0 x1 y0 end y n m : ℕ) (colour : ℕ → ℕ → ℕ) → IsTile f.picture col row x0 x1 y0 end → HasShape f.picture → y0 ≤ y → y < end → n + span_count x0 x1 ≡ m
     → drawn (drawn f (tile_above col row y) colour n) (in_span y x0 x1) colour (span_count x0 x1) ≡ drawn f (tile_above col row (y + 1)) colour m
 tile-row f col row x0 x1 y0 end y n m colour tile shape low high count =
     let p = f.picture in
-    let sum : f.writes + n + span_count x0 x1 ≡ f.writes + m = omega arith in
-    same_parts _ _ _ _
+    canvas_is _ _ _ _
     (changed-changed p (tile_above col row y) (in_span y x0 x1) colour colour shape
     ∙ changed-same p _ (tile_above col row (y + 1)) _ colour shape (λ u v u_in v_in. next_row p col row x0 x1 y0 end y u v tile u_in low high) (λ u v u_in v_in h. same_choice (in_span y x0 x1 u v) (colour u v)))
-    (mod-add-mod (f.writes + n) (2 ^ 64) (span_count x0 x1) ∙ rw sum refl)
+    (some_more f.writes n (span_count x0 x1) m (sym count))
 
 -- so many points as its rows have together
 pub tile_count-rows : (p : Picture) (col row x0 x1 y0 end : ℕ) → IsTile p col row x0 x1 y0 end → (end - y0) * span_count x0 x1 ≡ tile_count p col row
@@ -110,7 +107,7 @@ pub tile-end : (f : Canvas) (col row x0 x1 y0 end n : ℕ) (colour : ℕ → ℕ
 tile-end f col row x0 x1 y0 end n colour tile shape count =
     let p = f.picture in
     let points : n ≡ tile_count p col row = count ∙ tile_count-rows p col row x0 x1 y0 end tile in
-    same_parts _ _ _ _ (changed-same p (tile_above col row end) (in_tile col row) colour colour shape (λ u v u_in v_in. above_end p col row x0 x1 y0 end u v tile v_in) (λ u v u_in v_in h. refl)) (rw points refl)
+    canvas_is _ _ _ _ (changed-same p (tile_above col row end) (in_tile col row) colour colour shape (λ u v u_in v_in. above_end p col row x0 x1 y0 end u v tile v_in) (λ u v u_in v_in h. refl)) (rw points refl)
 
 -- what the call computes: the columns and rows of the tile
 pub tile-of : (f : Canvas) (w h n a b right end col row : ℕ) (ps : List ℕ) → canvas w h ps n ≡ f → a ≡ col → b ≡ row → right ≡ min (a * 16 + 16) w → end ≡ min (b * 16 + 16) h → (col * 16 < f.picture.width) × (row * 16 < f.picture.height)

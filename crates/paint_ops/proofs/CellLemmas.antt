@@ -1,6 +1,6 @@
 -- Cells of texts and points of bitmaps, column by column.
 use Rattle.std.proofs.Common.{◌≡◌, ℕ, ◌-◌, ◌<◌, ◌≤◌, Bool, true, false, ◌||◌, ◌==◌, nat_lt, ℤ, pos, negsuc, ◌+ℤ◌, ◌-ℤ◌, ◌≤ℤ◌, ◌<ℤ◌, inl, inr, List, [], ◌∷◌, length, get_or, Some, None, refl, sym, ap, ◌∙◌, arith}
-use Rattle.std.proofs.lemmas.Bool.{cases_Bool, cases_lt, and_right, lt-ltb, le-ltb}
+use Rattle.std.proofs.lemmas.Bool.{cases_Bool, cases_lt, and_right, lt-ltb, le-ltb, false≢true}
 use Rattle.std.proofs.lemmas.Int.{ints}
 use Rattle.std.specs.List.{AllByRecursion}
 use Rattle.std.proofs.lemmas.List.{get_or_past}
@@ -60,6 +60,20 @@ pub text-step : (font : Font) (code : ℕ) (codes : List ℕ) (u at next : ℤ) 
 text-step font code codes u at next y e =
     let s : u -ℤ next ≡ (u -ℤ at) -ℤ pos (width_of_code font code) = omega (arith, ints) in
     rw s (text_step font code codes y (u -ℤ at))
+
+text_apart : (font : Font) (code : ℕ) (codes : List ℕ) (y : ℕ) (z : ℤ) → is_in_text font (code ∷ []) z (pos y) ≡ true → is_in_text font codes (z -ℤ pos (width_of_code font code)) (pos y) ≡ false
+text_apart font code codes y (negsuc x) set = absurd cc
+text_apart font code codes y (pos x) set =
+    elim (cases_lt x (width_of_code font code)) [
+      | inl lt ↦ text-left font codes (pos x -ℤ pos (width_of_code font code)) (pos y) (omega (arith, ints))
+      | inr le ↦ absurd (false≢true (sym (cell_right font code x y le) ∙ set))
+    ]
+
+-- where the first cell has a set point the next ones have none
+pub text-apart : (font : Font) (code : ℕ) (codes : List ℕ) (u at next : ℤ) (y : ℕ) → next ≡ at +ℤ pos (width_of_code font code) → is_in_text font (code ∷ []) (u -ℤ at) (pos y) ≡ true → is_in_text font codes (u -ℤ next) (pos y) ≡ false
+text-apart font code codes u at next y e set =
+    let s : u -ℤ next ≡ (u -ℤ at) -ℤ pos (width_of_code font code) = omega (arith, ints) in
+    rw s (text_apart font code codes y (u -ℤ at) set)
 
 -- no cell is left
 pub text-nothing : (font : Font) (z : ℤ) (y : ℕ) → is_in_text font [] z (pos y) ≡ false

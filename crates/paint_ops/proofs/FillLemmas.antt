@@ -1,5 +1,5 @@
 -- The points of rectangles and of their edges, row by row.
-use Rattle.std.proofs.Common.{◌≡◌, Bool, true, false, ◌&&◌, ◌||◌, ℤ, ◌≤ℤ◌, ◌⊎◌, inl, inr, refl, sym, arith}
+use Rattle.std.proofs.Common.{◌≡◌, Bool, true, false, ◌&&◌, ◌||◌, ℤ, ◌≤ℤ◌, ◌<ℤ◌, ◌⊎◌, inl, inr, refl, sym, arith}
 use Rattle.std.specs.Ordering.{int_eq}
 use Rattle.std.proofs.lemmas.Bool.{and_parts, and_from, or_cases, or_left, or_right, or_from, false_from_ne_true}
 use Rattle.std.proofs.lemmas.Bool.Decides.{Decides-int_eq}
@@ -62,6 +62,20 @@ sides r x y some =
       | inl at ↦ let e = (Decides-int_eq x r.x0).0 at in or_right _ _ (has-from left x y (omega (arith, ints)) (omega (arith, ints)) b.top b.bottom)
       | inr at ↦ let e = (Decides-int_eq x r.x1).0 at in or_left _ _ (has-from right x y (omega (arith, ints)) (omega (arith, ints)) b.top b.bottom)
     ])
+
+-- which don't meet where they differ
+pub sides-apart : (r : Rect) (x y : ℤ) → r.x0 <ℤ r.x1 → has (record { x0 = r.x0; y0 = r.y0; x1 = r.x0; y1 = r.y1 }) (point_at x y) ≡ true → has (record { x0 = r.x1; y0 = r.y0; x1 = r.x1; y1 = r.y1 }) (point_at x y) ≡ false
+sides-apart r x y some at =
+    let b = has-parts (record { x0 = r.x0; y0 = r.y0; x1 = r.x0; y1 = r.y1 }) x y at in
+    has-none (record { x0 = r.x1; y0 = r.y0; x1 = r.x1; y1 = r.y1 }) x y (λ d. omega (arith, ints, b.right, d.left))
+
+-- a rectangle of one column is its side, and one of none has none
+pub side-alone : (r : Rect) (x y : ℤ) → r.x1 ≤ℤ r.x0 → has r (point_at x y) ≡ (has r (point_at x y) && (int_eq x r.x0 || int_eq x r.x1))
+side-alone r x y narrow =
+    same_test _ _
+    (λ h. let b = has-parts r x y h in
+    and_from _ _ h (or_left _ _ ((Decides-int_eq x r.x0).1 (omega (arith, ints, b.left, b.right)))))
+    (λ h. (and_parts (has r (point_at x y)) (int_eq x r.x0 || int_eq x r.x1) h).0)
 
 second_or : (h s t : Bool) → t ≡ true → h ≡ (h && (s || t))
 second_or true true t e = refl

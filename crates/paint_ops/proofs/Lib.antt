@@ -1,4 +1,5 @@
 pub mod CallerLemmas
+mod CanvasLemmas
 mod CellLemmas
 mod ColumnLemmas
 mod FillLemmas

@@ -6,8 +6,6 @@ use Rattle.frame.specs.Areas.{is_at, in_span}
 use Rattle.frame.proofs.CallerLemmas.{equal_by_points, colour_at-changed, has_shape-changed, changed-same}
 use Rattle.paint_ops.specs.Operations.{on_points}
 use Rattle.paint_ops.specs.Rows.{row_drawn}
-use Rattle.paint_ops.specs.Strips.{FitsIn}
-use Rattle.paint_ops.specs.declared.strip.Strip.{Strip}
 
 -- the colour of a point after a drawing that may give it one
 abbrev pub shown : Bool → Option ℕ → ℕ → ℕ
@@ -92,78 +90,45 @@ pub changed-in_span : (p : Picture) (y x0 x1 c : ℕ) → HasShape p → changed
 unfolding in_span
 changed-in_span p y x0 x1 c shape = changed-same p _ _ _ _ shape (λ u v _ _. and-last (v == y) (nat_le x0 u && nat_le u x1)) (λ u v _ _ _. refl)
 
--- ---- drawings in one colour
+-- ---- what points show
 
 -- what is shown depends on the columns that are drawn alone
-shown_there : (here : Bool) (a b : Option ℕ) (old : ℕ) → (here ≡ true → a ≡ b) → shown here a old ≡ shown here b old
+pub shown_there : (here : Bool) (a b : Option ℕ) (old : ℕ) → (here ≡ true → a ≡ b) → shown here a old ≡ shown here b old
 shown_there true a b old same = rw (same refl) refl
 shown_there false a b old same = refl
-
-pub row_drawn-same_colours : (p : Picture) (y : ℕ) (here : ℕ → Bool) (colour other : ℕ → Option ℕ) → HasShape p → ((u : ℕ) → u < p.width → here u ≡ true → colour u ≡ other u)
-    → row_drawn p y here colour ≡ row_drawn p y here other
-row_drawn-same_colours p y here colour other shape same = row_drawn-same p y here here colour other shape (λ u old u_in. shown_there (here u) (colour u) (other u) old (same u u_in))
-
-pub row_drawn-same_tests : (p : Picture) (y c : ℕ) (here f g : ℕ → Bool) → HasShape p → ((u : ℕ) → u < p.width → here u ≡ true → f u ≡ g u)
-    → row_drawn p y here (λ u. on_points (f u) c) ≡ row_drawn p y here (λ u. on_points (g u) c)
-row_drawn-same_tests p y c here f g shape same = row_drawn-same_colours p y here _ _ shape (λ u u_in in_here. ap (λ (b : Bool). on_points b c) (same u u_in in_here))
 
 pub shown-none : (here : Bool) (old : ℕ) → shown here None old ≡ old
 shown-none true old = refl
 shown-none false old = refl
 
-pub row_drawn-no_colours : (p : Picture) (y : ℕ) (here : ℕ → Bool) (colour : ℕ → Option ℕ) → HasShape p → ((u : ℕ) → u < p.width → here u ≡ true → colour u ≡ None)
-    → row_drawn p y here colour ≡ p
-row_drawn-no_colours p y here colour shape none =
-    row_drawn-nothing p y here colour shape (λ u old u_in. shown_there (here u) (colour u) None old (none u u_in) ∙ shown-none (here u) old)
-
-pub row_drawn-no_tests : (p : Picture) (y c : ℕ) (here f : ℕ → Bool) → HasShape p → ((u : ℕ) → u < p.width → here u ≡ true → f u ≡ false)
-    → row_drawn p y here (λ u. on_points (f u) c) ≡ p
-row_drawn-no_tests p y c here f shape none = row_drawn-no_colours p y here _ shape (λ u u_in in_here. ap (λ (b : Bool). on_points b c) (none u u_in in_here))
-
-both_shown : (here f g k : Bool) (c old : ℕ) → (here ≡ true → (g || f) ≡ k) → shown here (on_points g c) (shown here (on_points f c) old) ≡ shown here (on_points k c) old
+-- the columns of two tests, drawn one after the other
+pub both_shown : (here f g k : Bool) (c old : ℕ) → (here ≡ true → (g || f) ≡ k) → shown here (on_points g c) (shown here (on_points f c) old) ≡ shown here (on_points k c) old
 both_shown false f g k c old same = refl
 both_shown true true true k c old same = rw (← same refl) refl
 both_shown true true false k c old same = rw (← same refl) refl
 both_shown true false true k c old same = rw (← same refl) refl
 both_shown true false false k c old same = rw (← same refl) refl
 
--- the columns of two tests, drawn one after the other
-pub row_drawn-either : (p : Picture) (y c : ℕ) (here f g k : ℕ → Bool) → HasShape p → ((u : ℕ) → u < p.width → here u ≡ true → (g u || f u) ≡ k u)
-    → row_drawn (row_drawn p y here (λ u. on_points (f u) c)) y here (λ u. on_points (g u) c) ≡ row_drawn p y here (λ u. on_points (k u) c)
-row_drawn-either p y c here f g k shape same = row_drawn-twice p y here here here _ _ _ shape (λ u old u_in. both_shown (here u) (f u) (g u) (k u) c old (same u u_in))
-
-shown_again : (here there both : Bool) (c : Option ℕ) (old : ℕ) → both ≡ (here || there) → shown there c (shown here c old) ≡ shown both c old
+-- the same colours, drawn in some columns and then in others
+pub shown_again : (here there both : Bool) (c : Option ℕ) (old : ℕ) → both ≡ (here || there) → shown there c (shown here c old) ≡ shown both c old
 shown_again true true both (Some c) old e = rw e refl
 shown_again true false both (Some c) old e = rw e refl
 shown_again false true both (Some c) old e = rw e refl
 shown_again false false both (Some c) old e = rw e refl
 shown_again here there both None old e = shown-none there _ ∙ shown-none here old ∙ sym (shown-none both old)
 
--- the same colours, drawn in some columns and then in others
 pub row_drawn-more : (p : Picture) (y : ℕ) (here there both : ℕ → Bool) (colour : ℕ → Option ℕ) → HasShape p → ((u : ℕ) → u < p.width → both u ≡ (here u || there u))
     → row_drawn (row_drawn p y here colour) y there colour ≡ row_drawn p y both colour
 row_drawn-more p y here there both colour shape same = row_drawn-twice p y here there both colour colour colour shape (λ u old u_in. shown_again (here u) (there u) (both u) (colour u) old (same u u_in))
 
-shown_part : (part here test : Bool) (c old : ℕ) → part ≡ (here && test) → shown part (Some c) old ≡ shown here (on_points test c) old
+-- a part of some columns, drawn in one colour
+pub shown_part : (part here test : Bool) (c old : ℕ) → part ≡ (here && test) → shown part (Some c) old ≡ shown here (on_points test c) old
 shown_part part true true c old e = rw e refl
 shown_part part true false c old e = rw e refl
 shown_part part false test c old e = rw e refl
 
--- a part of some columns, drawn in one colour
-pub row_drawn-part : (p : Picture) (y c : ℕ) (part here test : ℕ → Bool) → HasShape p → ((u : ℕ) → u < p.width → part u ≡ (here u && test u))
-    → row_drawn p y part (λ _. Some c) ≡ row_drawn p y here (λ u. on_points (test u) c)
-row_drawn-part p y c part here test shape same = row_drawn-same p y part here (λ _. Some c) (λ u. on_points (test u) c) shape (λ u old u_in. shown_part (part u) (here u) (test u) c old (same u u_in))
-
--- a strip fits a drawn picture as well
-pub fits-row_drawn : (p : Picture) (y : ℕ) (here : ℕ → Bool) (colour : ℕ → Option ℕ) (s : Strip) → FitsIn p s → FitsIn (row_drawn p y here colour) s
-fits-row_drawn p y here colour s fits = record { shape = has_shape-row_drawn p y here colour fits.shape; some = fits.some; within = fits.within; row = fits.row }
-
-shown_rest : (part here : Bool) (c : Option ℕ) (old : ℕ) → (part ≡ true → here ≡ true) → (here ≡ true → part ≡ false → c ≡ None) → shown part c old ≡ shown here c old
+-- a part of some columns, where the others have no colour
+pub shown_rest : (part here : Bool) (c : Option ℕ) (old : ℕ) → (part ≡ true → here ≡ true) → (here ≡ true → part ≡ false → c ≡ None) → shown part c old ≡ shown here c old
 shown_rest true here c old f g = rw (f refl) refl
 shown_rest false true c old f g = rw (g refl refl) refl
 shown_rest false false c old f g = refl
-
--- a part of some columns, where the others have no colour
-pub row_drawn-rest : (p : Picture) (y : ℕ) (part here : ℕ → Bool) (colour : ℕ → Option ℕ) → HasShape p → ((u : ℕ) → part u ≡ true → here u ≡ true) → ((u : ℕ) → here u ≡ true → part u ≡ false → colour u ≡ None)
-    → row_drawn p y part colour ≡ row_drawn p y here colour
-row_drawn-rest p y part here colour shape inside rest = row_drawn-same p y part here colour colour shape (λ u old _. shown_rest (part u) (here u) (colour u) old (inside u) (rest u))

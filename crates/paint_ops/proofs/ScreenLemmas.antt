@@ -13,17 +13,18 @@ use Rattle.gfx_base.proofs.CallerLemmas.{same_point}
 use Rattle.line_ink.specs.Lines.{is_on_line}
 use Rattle.bitmap.specs.Bitmaps.{Bitmap}
 use Rattle.glyph_font.specs.Fonts.{Font}
-use Rattle.frame.specs.Pictures.{Picture, HasShape}
+use Rattle.frame.specs.Canvases.{Canvas}
+use Rattle.frame.specs.Pictures.{HasShape}
 use Rattle.gfx_base.specs.declared.num.Num.{Num}
 use Rattle.paint_ops.specs.declared.op.Op.{Op}
 use Rattle.paint_ops.specs.declared.op.Op.TheVariants as op
 use Rattle.paint_ops.specs.declared.strip.Strip.{Strip}
 use Rattle.paint_ops.specs.Kinds.{Assets, bitmap_at, font_at, string_at}
 use Rattle.paint_ops.specs.Operations.{Inputs, number_of, rect_of, point_of_numbers, seen_from, is_on_edge, on_points, bitmap_colour, text_colour, colour_of_operation}
-use Rattle.paint_ops.specs.Rows.{row_drawn, colour_on_screen}
+use Rattle.paint_ops.specs.Rows.{row_written, colour_on_screen}
 use Rattle.paint_ops.specs.Strips.{in_strip}
 use Rattle.paint_ops.specs.Panes.{point_on_screen, rect_on_screen}
-use Rattle.paint_ops.proofs.RowLemmas.{row_drawn-same_tests, row_drawn-same_colours}
+use Rattle.paint_ops.proofs.CanvasLemmas.{row_written-same_tests, row_written-same_colours}
 use Rattle.paint_ops.proofs.StripLemmas.{same_test}
 
 -- ---- shapes on the screen
@@ -58,52 +59,52 @@ element_is {X = X} xs ys i x d same lt is = is ∙ ap (λ (zs : List X). get_or 
 
 -- ---- operations
 
-module _ (assets : Assets) (inputs : Inputs) (o : Op) (origin : Point) (p now : Picture) (s : Strip) (shape : HasShape p) where
+module _ (assets : Assets) (inputs : Inputs) (o : Op) (origin : Point) (f now : Canvas) (s : Strip) (shape : HasShape f.picture) where
   -- the operation's colours are drawn in the strip
   abbrev pub IsPut : Type 0
-  IsPut = now ≡ row_drawn p s.y (in_strip s) (λ u. colour_on_screen assets inputs o origin u s.y)
+  IsPut = now ≡ row_written f s.y (in_strip s) (λ u. colour_on_screen assets inputs o origin u s.y)
 
   abbrev pub AreTests : (ℕ → Bool) → ℕ → Type 0
-  AreTests f colour = now ≡ row_drawn p s.y (in_strip s) (λ u. on_points (f u) colour)
+  AreTests here colour = now ≡ row_written f s.y (in_strip s) (λ u. on_points (here u) colour)
 
   pub put-fill : (x0 y0 x1 y1 : Num) (colour : ℕ) (r : Rect) → o ≡ op.Fill x0 y0 x1 y1 colour → r ≡ rect_on_screen origin (rect_of inputs x0 y0 x1 y1) → AreTests (λ u. has r (point_at (pos u) (pos s.y))) colour → IsPut
   unfolding colour_of_operation
-  put-fill x0 y0 x1 y1 colour r is rect drawn =
-      drawn ∙ rw (is, rect) (row_drawn-same_tests p s.y colour (in_strip s) _ _ shape (λ u _ _. has-screen origin (rect_of inputs x0 y0 x1 y1) (point_at (pos u) (pos s.y))))
+  put-fill x0 y0 x1 y1 colour r is rect written =
+      written ∙ rw (is, rect) (row_written-same_tests f s.y colour (in_strip s) _ _ shape (λ u _ _. has-screen origin (rect_of inputs x0 y0 x1 y1) (point_at (pos u) (pos s.y))))
 
   pub put-frame : (x0 y0 x1 y1 : Num) (colour : ℕ) (r : Rect) → o ≡ op.Frame x0 y0 x1 y1 colour → r ≡ rect_on_screen origin (rect_of inputs x0 y0 x1 y1) → AreTests (λ u. is_on_edge r (point_at (pos u) (pos s.y))) colour → IsPut
   unfolding colour_of_operation
-  put-frame x0 y0 x1 y1 colour r is rect drawn =
-      drawn ∙ rw (is, rect) (row_drawn-same_tests p s.y colour (in_strip s) _ _ shape (λ u _ _. edge-screen origin (rect_of inputs x0 y0 x1 y1) (point_at (pos u) (pos s.y))))
+  put-frame x0 y0 x1 y1 colour r is rect written =
+      written ∙ rw (is, rect) (row_written-same_tests f s.y colour (in_strip s) _ _ shape (λ u _ _. edge-screen origin (rect_of inputs x0 y0 x1 y1) (point_at (pos u) (pos s.y))))
 
   pub put-hline : (x0 x1 y : Num) (colour : ℕ) (r : Rect) → o ≡ op.HLine x0 x1 y colour → r ≡ rect_on_screen origin (rect_of inputs x0 y x1 y) → AreTests (λ u. has r (point_at (pos u) (pos s.y))) colour → IsPut
   unfolding colour_of_operation
-  put-hline x0 x1 y colour r is rect drawn =
-      drawn ∙ rw (is, rect) (row_drawn-same_tests p s.y colour (in_strip s) _ _ shape (λ u _ _. has-screen origin (rect_of inputs x0 y x1 y) (point_at (pos u) (pos s.y))))
+  put-hline x0 x1 y colour r is rect written =
+      written ∙ rw (is, rect) (row_written-same_tests f s.y colour (in_strip s) _ _ shape (λ u _ _. has-screen origin (rect_of inputs x0 y x1 y) (point_at (pos u) (pos s.y))))
 
   pub put-vline : (x y0 y1 : Num) (colour : ℕ) (r : Rect) → o ≡ op.VLine x y0 y1 colour → r ≡ rect_on_screen origin (rect_of inputs x y0 x y1) → AreTests (λ u. has r (point_at (pos u) (pos s.y))) colour → IsPut
   unfolding colour_of_operation
-  put-vline x y0 y1 colour r is rect drawn =
-      drawn ∙ rw (is, rect) (row_drawn-same_tests p s.y colour (in_strip s) _ _ shape (λ u _ _. has-screen origin (rect_of inputs x y0 x y1) (point_at (pos u) (pos s.y))))
+  put-vline x y0 y1 colour r is rect written =
+      written ∙ rw (is, rect) (row_written-same_tests f s.y colour (in_strip s) _ _ shape (λ u _ _. has-screen origin (rect_of inputs x y0 x y1) (point_at (pos u) (pos s.y))))
 
   pub put-line : (x0 y0 x1 y1 : Num) (colour : ℕ) (a b : Point) → o ≡ op.Line x0 y0 x1 y1 colour → a ≡ point_of_numbers inputs x0 y0 → b ≡ point_of_numbers inputs x1 y1 → AreTests (λ u. is_on_line a b (seen_from origin (point_at (pos u) (pos s.y)))) colour → IsPut
   unfolding colour_of_operation
-  put-line x0 y0 x1 y1 colour a b is first last drawn = drawn ∙ rw (is, first, last) refl
+  put-line x0 y0 x1 y1 colour a b is first last written = written ∙ rw (is, first, last) refl
 
   pub put-bitmap : (bitmap : ℕ) (x y : Num) (b : Bitmap) (corner : Point) → o ≡ op.Bitmap bitmap x y → corner ≡ point_on_screen origin (point_of_numbers inputs x y) → b ≡ bitmap_at assets bitmap
-      → now ≡ row_drawn p s.y (in_strip s) (λ u. bitmap_colour b (pos u -ℤ corner.x) (pos s.y -ℤ corner.y)) → IsPut
+      → now ≡ row_written f s.y (in_strip s) (λ u. bitmap_colour b (pos u -ℤ corner.x) (pos s.y -ℤ corner.y)) → IsPut
   unfolding colour_of_operation
-  put-bitmap bitmap x y b corner is at same drawn =
-      drawn ∙ rw (is, at, same) (row_drawn-same_colours p s.y (in_strip s) _ _ shape (λ u _ _. ap (λ (q : Point). bitmap_colour (bitmap_at assets bitmap) q.x q.y) (seen-screen origin (point_of_numbers inputs x y) (point_at (pos u) (pos s.y)))))
+  put-bitmap bitmap x y b corner is at same written =
+      written ∙ rw (is, at, same) (row_written-same_colours f s.y (in_strip s) _ _ shape (λ u _ _. ap (λ (q : Point). bitmap_colour (bitmap_at assets bitmap) q.x q.y) (seen-screen origin (point_of_numbers inputs x y) (point_at (pos u) (pos s.y)))))
 
-  pub put-text : (font : ℕ) (x y : Num) (colour string : ℕ) (f : Font) (text : List ℕ) (corner : Point) → o ≡ op.Text font x y colour string → corner ≡ point_on_screen origin (point_of_numbers inputs x y) → f ≡ font_at assets font → text ≡ string_at assets string
-      → now ≡ row_drawn p s.y (in_strip s) (λ u. text_colour f text (seen_from corner (point_at (pos u) (pos s.y))) colour) → IsPut
+  pub put-text : (font : ℕ) (x y : Num) (colour string : ℕ) (face : Font) (text : List ℕ) (corner : Point) → o ≡ op.Text font x y colour string → corner ≡ point_on_screen origin (point_of_numbers inputs x y) → face ≡ font_at assets font → text ≡ string_at assets string
+      → now ≡ row_written f s.y (in_strip s) (λ u. text_colour face text (seen_from corner (point_at (pos u) (pos s.y))) colour) → IsPut
   unfolding colour_of_operation
-  put-text font x y colour string f text corner is at same spelled drawn =
-      drawn ∙ rw (is, at, same, spelled) (row_drawn-same_colours p s.y (in_strip s) _ _ shape (λ u _ _. ap (λ (q : Point). text_colour (font_at assets font) (string_at assets string) q colour) (seen-screen origin (point_of_numbers inputs x y) (point_at (pos u) (pos s.y)))))
+  put-text font x y colour string face text corner is at same spelled written =
+      written ∙ rw (is, at, same, spelled) (row_written-same_colours f s.y (in_strip s) _ _ shape (λ u _ _. ap (λ (q : Point). text_colour (font_at assets font) (string_at assets string) q colour) (seen-screen origin (point_of_numbers inputs x y) (point_at (pos u) (pos s.y)))))
 
-  pub put-number : (font : ℕ) (x y : Num) (colour : ℕ) (num : Num) (f : Font) (z : ℤ) (corner : Point) → o ≡ op.Number font x y colour num → corner ≡ point_on_screen origin (point_of_numbers inputs x y) → f ≡ font_at assets font → z ≡ number_of inputs num
-      → now ≡ row_drawn p s.y (in_strip s) (λ u. text_colour f (signed_decimal z) (seen_from corner (point_at (pos u) (pos s.y))) colour) → IsPut
+  pub put-number : (font : ℕ) (x y : Num) (colour : ℕ) (num : Num) (face : Font) (z : ℤ) (corner : Point) → o ≡ op.Number font x y colour num → corner ≡ point_on_screen origin (point_of_numbers inputs x y) → face ≡ font_at assets font → z ≡ number_of inputs num
+      → now ≡ row_written f s.y (in_strip s) (λ u. text_colour face (signed_decimal z) (seen_from corner (point_at (pos u) (pos s.y))) colour) → IsPut
   unfolding colour_of_operation
-  put-number font x y colour num f z corner is at same value drawn =
-      drawn ∙ rw (is, at, same, value) (row_drawn-same_colours p s.y (in_strip s) _ _ shape (λ u _ _. ap (λ (q : Point). text_colour (font_at assets font) (signed_decimal (number_of inputs num)) q colour) (seen-screen origin (point_of_numbers inputs x y) (point_at (pos u) (pos s.y)))))
+  put-number font x y colour num face z corner is at same value written =
+      written ∙ rw (is, at, same, value) (row_written-same_colours f s.y (in_strip s) _ _ shape (λ u _ _. ap (λ (q : Point). text_colour (font_at assets font) (signed_decimal (number_of inputs num)) q colour) (seen-screen origin (point_of_numbers inputs x y) (point_at (pos u) (pos s.y)))))

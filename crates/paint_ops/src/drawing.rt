@@ -1,8 +1,8 @@
-ghost use Rattle.std.specs.Prelude.{◌≡◌, ◌≤◌, ◌<◌};
+ghost use Rattle.std.specs.Prelude.{◌≡◌, ◌+◌, ◌%◌, ◌^◌, ◌≤◌, ◌<◌};
 ghost use Rattle.std.specs.List.{AllByRecursion};
 ghost use Rattle.paint_ops.specs.Soundness.{IsSound, IsOperation};
 ghost use Rattle.paint_ops.specs.Operations.{Inputs};
-ghost use Rattle.paint_ops.specs.Rows.{IsOrigin, LiesInRow, colour_on_screen, operation_drawn, row_drawn};
+ghost use Rattle.paint_ops.specs.Rows.{IsOrigin, LiesInRow, colour_on_screen, operation_count, operation_drawn, row_written};
 ghost use Rattle.paint_ops.specs.Strips.{FitsIn, in_strip};
 ghost use Rattle.paint_ops.specs.Panes.{inputs_of_pane, IsPane};
 
@@ -22,8 +22,8 @@ use region::Span;
 fn draw_in(op: &Op, pane: &Pane, strip: Strip, assets: &Assets, target: &mut Frame)
     requires operation { IsOperation assets.now op.now }
     requires pane { IsPane pane.now }
-    requires strip { FitsIn target.old.picture strip }
-    ensures { target.new.picture ≡ row_drawn target.old.picture strip.y (in_strip strip)
+    requires strip { FitsIn target.old strip }
+    ensures { target.new ≡ row_written target.old strip.y (in_strip strip)
         (λ u. colour_on_screen assets.now (inputs_of_pane pane.now) op.now pane.now.origin u
         strip.y) }
 {
@@ -83,10 +83,11 @@ fn draw_in(op: &Op, pane: &Pane, strip: Strip, assets: &Assets, target: &mut Fra
 }
 
 /// Draws an operation of a window on the row `y` of a frame, inside the spans: the points of them
-/// that the operation covers get its colours, and no other point changes. The window has these
-/// values, is `w` by `h` points large, each at most 4,096, and its upper left corner lies at
-/// `origin`, whose numbers are from −65,535 to 65,535. Coordinates are added exactly. The row and
-/// the points of the spans lie on the frame, and the assets have all that the operation names.
+/// that the operation covers get its colours, each written once for each span that has it, and no
+/// other point is written. The window has these values, is `w` by `h` points large, each at most
+/// 4,096, and its upper left corner lies at `origin`, whose numbers are from −65,535 to 65,535.
+/// Coordinates are added exactly. The row and the points of the spans lie on the frame, and the
+/// assets have all that the operation names.
 pub fn draw(
     op: &Op,
     values: &[i16; 16],
@@ -104,9 +105,13 @@ pub fn draw(
     requires origin { IsOrigin origin.x × IsOrigin origin.y }
     requires row { y < target.old.picture.height }
     requires spans { AllByRecursion (LiesInRow target.old.picture.width) spans.now }
-    ensures { target.new.picture ≡ operation_drawn assets.now
+    ensures picture { target.new.picture ≡ operation_drawn assets.now
         (record { values = values.now; width = w; height = h }) op.now origin y spans.now
         target.old.picture }
+    ensures writes { target.new.writes
+        ≡ (target.old.writes
+        + operation_count assets.now (record { values = values.now; width = w; height = h })
+        op.now origin y spans.now target.old.picture.width) % 2 ^ 64 }
 {
     let pane = Pane {
         values,
@@ -115,6 +120,8 @@ pub fn draw(
         origin,
     };
     let width = target.width();
+    // The proof asks that the count of writes at first is a number of 64 bits.
+    let _writes = target.writes();
     for span in spans {
         if let Some(strip) = Strip::of(*span, y, width) {
             draw_in(op, &pane, strip, assets, target);

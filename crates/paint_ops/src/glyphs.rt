@@ -6,7 +6,7 @@ ghost use Rattle.gfx_base.specs.Range.{IsNear};
 ghost use Rattle.gfx_base.specs.Rects.{point_at};
 ghost use Rattle.glyph_font.specs.Fonts.{width_of_code};
 ghost use Rattle.paint_ops.specs.Operations.{is_in_text, on_points, seen_from, text_colour};
-ghost use Rattle.paint_ops.specs.Rows.{row_drawn};
+ghost use Rattle.paint_ops.specs.Rows.{row_written};
 ghost use Rattle.paint_ops.specs.Strips.{FitsIn, in_strip};
 
 use crate::strip::Strip;
@@ -26,12 +26,12 @@ fn draw_glyph(
     colour: Colour,
     target: &mut Frame,
 )
-    requires part { FitsIn target.old.picture part }
+    requires part { FitsIn target.old part }
     requires inside { (x ≤ℤ pos part.left)
         × (pos part.right <ℤ (x +ℤ pos (width_of_code font.now code))) }
     requires width { width_of_code font.now code ≤ 255 }
     requires x { IsNear x }
-    ensures { target.new.picture ≡ row_drawn target.old.picture part.y (in_strip part)
+    ensures { target.new ≡ row_written target.old part.y (in_strip part)
         (λ u. on_points (is_in_text font.now (code ∷ []) (pos u -ℤ x) (pos row)) colour) }
 {
     for u in part.left..part.right + 1 {
@@ -51,9 +51,9 @@ fn draw_cell(
     colour: Colour,
     target: &mut Frame,
 )
-    requires strip { FitsIn target.old.picture strip }
+    requires strip { FitsIn target.old strip }
     requires x { IsNear x }
-    ensures { target.new.picture ≡ row_drawn target.old.picture strip.y (in_strip strip)
+    ensures { target.new ≡ row_written target.old strip.y (in_strip strip)
         (λ u. on_points (is_in_text font.now (code ∷ []) (pos u -ℤ x) (pos row)) colour) }
 {
     let last = x + i32::from(font.width(code)) - 1;
@@ -73,9 +73,9 @@ fn draw_cells(
     target: &mut Frame,
 )
     requires few { length text.now ≤ 64 }
-    requires strip { FitsIn target.old.picture strip }
+    requires strip { FitsIn target.old strip }
     requires x { IsNear x }
-    ensures { target.new.picture ≡ row_drawn target.old.picture strip.y (in_strip strip)
+    ensures { target.new ≡ row_written target.old strip.y (in_strip strip)
         (λ u. on_points (is_in_text font.now text.now (pos u -ℤ x) (pos row)) colour) }
 {
     let mut left = x;
@@ -99,9 +99,9 @@ pub fn draw_text(
     target: &mut Frame,
 )
     requires few { length text.now ≤ 64 }
-    requires strip { FitsIn target.old.picture strip }
+    requires strip { FitsIn target.old strip }
     requires corner { IsNear corner.x × IsNear corner.y }
-    ensures { target.new.picture ≡ row_drawn target.old.picture strip.y (in_strip strip)
+    ensures { target.new ≡ row_written target.old strip.y (in_strip strip)
         (λ u. text_colour font.now text.now
         (seen_from corner (point_at (pos u) (pos strip.y))) colour) }
 {
@@ -120,9 +120,9 @@ pub fn draw_number(
     colour: Colour,
     target: &mut Frame,
 )
-    requires strip { FitsIn target.old.picture strip }
+    requires strip { FitsIn target.old strip }
     requires corner { IsNear corner.x × IsNear corner.y }
-    ensures { target.new.picture ≡ row_drawn target.old.picture strip.y (in_strip strip)
+    ensures { target.new ≡ row_written target.old strip.y (in_strip strip)
         (λ u. text_colour font.now (signed_decimal number)
         (seen_from corner (point_at (pos u) (pos strip.y))) colour) }
 {

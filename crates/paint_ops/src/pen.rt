@@ -4,7 +4,7 @@ ghost use Rattle.std.specs.Prelude.{◌≡◌, pos};
 ghost use Rattle.gfx_base.specs.Rects.{point_at};
 ghost use Rattle.line_ink.specs.Lines.{IsInReach, is_on_line};
 ghost use Rattle.paint_ops.specs.Operations.{on_points, seen_from};
-ghost use Rattle.paint_ops.specs.Rows.{IsOrigin, row_drawn};
+ghost use Rattle.paint_ops.specs.Rows.{IsOrigin, row_written};
 ghost use Rattle.paint_ops.specs.Strips.{FitsIn, in_strip};
 ghost use Rattle.paint_ops.specs.Pens.{IsReady, after_point};
 
@@ -57,8 +57,8 @@ pub fn draw_line(
 )
     requires ends { IsInReach a.x × IsInReach a.y × IsInReach b.x × IsInReach b.y }
     requires origin { IsOrigin origin.x × IsOrigin origin.y }
-    requires strip { FitsIn target.old.picture strip }
-    ensures { target.new.picture ≡ row_drawn target.old.picture strip.y (in_strip strip)
+    requires strip { FitsIn target.old strip }
+    ensures { target.new ≡ row_written target.old strip.y (in_strip strip)
         (λ u. on_points (is_on_line a b
         (seen_from origin (point_at (pos u) (pos strip.y)))) colour) }
 {

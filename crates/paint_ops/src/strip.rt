@@ -1,5 +1,6 @@
-ghost use Rattle.std.specs.Prelude.{◌≡◌, ℕ, ◌<◌, ◌≤◌, ◌&&◌, pos, ◌≤ℤ◌, IfSome};
-ghost use Rattle.frame.specs.Pictures.{Picture, HasShape};
+ghost use Rattle.std.specs.Prelude.{◌≡◌, ℕ, ◌^◌, ◌<◌, ◌≤◌, ◌&&◌, pos, ◌≤ℤ◌, IfSome};
+ghost use Rattle.frame.specs.Canvases.{Canvas};
+ghost use Rattle.frame.specs.Pictures.{HasShape};
 ghost use Rattle.gfx_base.specs.Range.{is_within};
 ghost use Rattle.region.specs.Spans.{in_span};
 
@@ -19,8 +20,8 @@ impl Strip {
     /// The columns of a span in a row of this width, or `None` where it has none.
     pub fn of(span: Span, y: u16, width: u16) -> Option<Strip>
         requires width { 1 ≤ width }
-        ensures fits { (p : Picture) → HasShape p → width ≡ p.width → y < p.height
-            → IfSome result (FitsIn p) }
+        ensures fits { (f : Canvas) → HasShape f.picture → f.writes < 2 ^ 64
+            → width ≡ f.picture.width → y < f.picture.height → IfSome result (FitsIn f) }
         ensures row { IfSome result (λ s. s.y ≡ y) }
         ensures columns { (u : ℕ) → u < width → in_some_strip result u ≡ in_span span (pos u) }
     {
@@ -34,7 +35,7 @@ impl Strip {
 
     /// The columns from x0 to x1, both ends included, or `None` where there is none.
     pub fn cut(self, x0: i32, x1: i32) -> Option<Strip>
-        ensures fits { (p : Picture) → FitsIn p self → IfSome result (FitsIn p) }
+        ensures fits { (f : Canvas) → FitsIn f self → IfSome result (FitsIn f) }
         ensures row { IfSome result (λ s. s.y ≡ self.y) }
         ensures within { IfSome result (λ s. (x0 ≤ℤ pos s.left) × (pos s.right ≤ℤ x1)) }
         ensures columns { (u : ℕ) → in_some_strip result u

@@ -15,7 +15,7 @@ use Rattle.scene.proofs.CallerLemmas.{has-clip_in, in_patch_at-get}
 use Rattle.scene.specs.Places.{no_window}
 use Rattle.exec_paint.specs.Areas.{is_open}
 use Rattle.exec_paint.proofs.AreaLemmas.{screen_is, looks_on, on-screen, open-patch, patch-painted, patch-empty, patch-valid, patch-outside, tiles-same, tiles-empty}
-use Rattle.exec_paint.proofs.WriteLemmas.{points_in-same, points_in-none, no_more}
+use Rattle.frame.proofs.CallerLemmas.{points_in-same, points_in-none, no_more}
 use Rattle.exec_paint.proofs.area.job.Goals as goal
 use Rattle.exec_paint.proofs.area.job.Goals.{in-Some+else-not-is_empty, in_default}
 

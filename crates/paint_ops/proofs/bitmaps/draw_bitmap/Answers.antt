@@ -2,7 +2,7 @@ use Rattle.std.proofs.Common.{◌⊎◌, inl, inr, sym, pos, ◌-ℤ◌, ◌<ℤ
 use Rattle.std.proofs.lemmas.Int.{ints}
 use Rattle.paint_ops.specs.Operations.{bitmap_colour}
 use Rattle.paint_ops.specs.Strips.{in_strip}
-use Rattle.paint_ops.proofs.RowLemmas.{row_drawn-no_colours}
+use Rattle.paint_ops.proofs.CanvasLemmas.{row_written-no_colours}
 use Rattle.paint_ops.proofs.PaneLemmas.{column_is}
 use Rattle.paint_ops.proofs.CellLemmas.{bitmap-above, bitmap-below}
 use Rattle.paint_ops.proofs.bitmaps.draw_bitmap.Goals as goal
@@ -17,7 +17,7 @@ returns-else-row-ge0 c =
       | else-row-ge0-via-then-row-ge0+else-row-from w ↦ inr (omega (arith, ints))
       | else-row-ge0-via-else-row-ge0 w ↦ inl (omega (arith, ints))
     ] in
-    sym (row_drawn-no_colours a.target.now.picture a.strip.y (in_strip a.strip) (λ u. bitmap_colour a.bitmap.now (pos u -ℤ a.corner.x) row) c.requires.strip.shape (λ u _ _. elim off [
+    sym (row_written-no_colours a.target.now a.strip.y (in_strip a.strip) (λ u. bitmap_colour a.bitmap.now (pos u -ℤ a.corner.x) row) c.requires.strip.shape c.requires.strip.count (λ u _ _. elim off [
       | inl above ↦ bitmap-above a.bitmap.now (pos u -ℤ a.corner.x) row above
       | inr below ↦ bitmap-below a.bitmap.now (pos u -ℤ a.corner.x) row below
     ]))

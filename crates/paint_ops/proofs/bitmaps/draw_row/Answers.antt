@@ -5,7 +5,7 @@ use mir.Val.{SFits}
 use Rattle.gfx_base.specs.Range.{is_within}
 use Rattle.paint_ops.specs.Operations.{bitmap_colour}
 use Rattle.paint_ops.specs.Strips.{in_strip}
-use Rattle.paint_ops.proofs.RowLemmas.{row_drawn-rest, row_drawn-no_colours}
+use Rattle.paint_ops.proofs.CanvasLemmas.{row_written-rest, row_written-no_colours}
 use Rattle.paint_ops.proofs.StripLemmas.{second_false}
 use Rattle.paint_ops.proofs.PaneLemmas.{last_is}
 use Rattle.paint_ops.proofs.CellLemmas.{bitmap-outside}
@@ -14,7 +14,7 @@ use Rattle.paint_ops.proofs.bitmaps.draw_row.Goals as goal
 pub returns-in-Some : goal.returns-in-Some
 returns-in-Some c =
     let a = c.args in
-    let p = a.target.now.picture in
+    let f = a.target.now in
     let part = c.in-Some.part in
     let x : SFits w32 a.x = search rules in
     let last = a.x +ℤ pos a.bitmap.now.width -ℤ pos 1 in
@@ -22,7 +22,7 @@ returns-in-Some c =
     let end = last_is c.from.result a.x a.bitmap.now.width (c.from.ensures ∙ ap pos c.width.ensures.value) (omega arith) c.requires.x in
     let columns : (u : ℕ) → in_strip part u ≡ (in_strip a.strip u && is_within a.x last (pos u)) = λ u. rw (end, to_z-of_z w32 a.x x) at (c.in-Some.ensures.columns u) in
     simp to_z-of_z at c.draw_points.ensures
-    ∙ rw c.in-Some.ensures.row (row_drawn-rest p a.strip.y (in_strip part) (in_strip a.strip) colour c.requires.strip.shape
+    ∙ rw c.in-Some.ensures.row (row_written-rest f a.strip.y (in_strip part) (in_strip a.strip) colour c.requires.strip.shape
     (λ u h. (and_parts (in_strip a.strip u) (is_within a.x last (pos u)) (sym (columns u) ∙ h)).0)
     (λ u h off. bitmap-outside a.bitmap.now (pos u) a.x last a.row refl (second_false (in_strip a.strip u) (is_within a.x last (pos u)) h (sym off ∙ columns u))))
 
@@ -33,5 +33,5 @@ returns-in_default c =
     let last = a.x +ℤ pos a.bitmap.now.width -ℤ pos 1 in
     let end = last_is c.from.result a.x a.bitmap.now.width (c.from.ensures ∙ ap pos c.width.ensures.value) (omega arith) c.requires.x in
     let columns : (u : ℕ) → false ≡ (in_strip a.strip u && is_within a.x last (pos u)) = λ u. rw (c.in_default.is, end, to_z-of_z w32 a.x x) at (c.cut.ensures.columns u) in
-    sym (row_drawn-no_colours a.target.now.picture a.strip.y (in_strip a.strip) (λ u. bitmap_colour a.bitmap.now (pos u -ℤ a.x) (pos a.row)) c.requires.strip.shape (λ u _ here.
+    sym (row_written-no_colours a.target.now a.strip.y (in_strip a.strip) (λ u. bitmap_colour a.bitmap.now (pos u -ℤ a.x) (pos a.row)) c.requires.strip.shape c.requires.strip.count (λ u _ here.
     bitmap-outside a.bitmap.now (pos u) a.x last a.row refl (second_false (in_strip a.strip u) (is_within a.x last (pos u)) here (columns u))))

@@ -5,7 +5,7 @@ use mir.Val.{SFits}
 use Rattle.gfx_base.specs.Rects.{has, point_at}
 use Rattle.paint_ops.specs.Operations.{is_on_edge}
 use Rattle.paint_ops.specs.Strips.{in_strip}
-use Rattle.paint_ops.proofs.RowLemmas.{row_drawn-same_tests}
+use Rattle.paint_ops.proofs.CanvasLemmas.{row_written-same_tests}
 use Rattle.paint_ops.proofs.FillLemmas.{edge-on_end, edge-between}
 use Rattle.paint_ops.proofs.PaneLemmas.{same_from_bits, other_from_bits}
 use Rattle.paint_ops.proofs.fill.draw_edge.Goals as goal
@@ -21,7 +21,7 @@ returns-then-y-rect-2 c =
       | else-y-rect w ↦ let y1 : SFits w32 r.y1 = search rules in inr (sym c.from-y.ensures ∙ same_from_bits c.from-y.result r.y1 y y1 (eqb-true _ _ (sym w.value-is ∙ c.if-y-rect-2.true)))
     ] in
     c.fill_rect.ensures
-    ∙ row_drawn-same_tests a.target.now.picture a.strip.y a.colour (in_strip a.strip) (λ u. has r (point_at (pos u) (pos a.strip.y))) (λ u. is_on_edge r (point_at (pos u) (pos a.strip.y))) c.requires.strip.shape (λ u _ _. edge-on_end r (pos u) (pos a.strip.y) end)
+    ∙ row_written-same_tests a.target.now a.strip.y a.colour (in_strip a.strip) (λ u. has r (point_at (pos u) (pos a.strip.y))) (λ u. is_on_edge r (point_at (pos u) (pos a.strip.y))) c.requires.strip.shape (λ u _ _. edge-on_end r (pos u) (pos a.strip.y) end)
 
 pub returns-else-y-rect-2 : goal.returns-else-y-rect-2
 returns-else-y-rect-2 c =
@@ -36,4 +36,4 @@ returns-else-y-rect-2 c =
       | else-y-rect w ↦ other_from_bits c.from-y.result r.y1 (pos a.strip.y) c.from-y.ensures (eqb-false _ _ (sym w.value-is ∙ c.if-y-rect-2.false))
     ] in
     c.draw_sides.ensures
-    ∙ row_drawn-same_tests a.target.now.picture a.strip.y a.colour (in_strip a.strip) (λ u. has r (point_at (pos u) (pos a.strip.y)) && (int_eq (pos u) r.x0 || int_eq (pos u) r.x1)) (λ u. is_on_edge r (point_at (pos u) (pos a.strip.y))) c.requires.strip.shape (λ u _ _. edge-between r (pos u) (pos a.strip.y) not_first not_last)
+    ∙ row_written-same_tests a.target.now a.strip.y a.colour (in_strip a.strip) (λ u. has r (point_at (pos u) (pos a.strip.y)) && (int_eq (pos u) r.x0 || int_eq (pos u) r.x1)) (λ u. is_on_edge r (point_at (pos u) (pos a.strip.y))) c.requires.strip.shape (λ u _ _. edge-between r (pos u) (pos a.strip.y) not_first not_last)

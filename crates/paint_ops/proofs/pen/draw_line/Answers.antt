@@ -19,7 +19,7 @@ walk-requires-clause-may_put c q h =
     let left : c.args.strip.left < 65536 = omega (arith, fits.some) in
     let y = column_is c.from.result o.y c.args.strip.y c.from.ensures ny high in
     let clip = same_rect _ _ _ _ _ _ _ _ (column_is c.from-2.result o.x c.args.strip.left c.from-2.ensures nx left) y (column_is c.from-3.result o.x c.args.strip.right c.from-3.ensures nx wide) y in
-    clip-ready c.args.target.now.picture c.args.strip o _ _ q clip (to_z-of_z w32 o.x f) fits h
+    clip-ready c.args.target.now c.args.strip o _ _ q clip (to_z-of_z w32 o.x f) fits h
 
 pub returns : goal.returns
 returns c =
@@ -33,7 +33,7 @@ returns c =
     let left : c.args.strip.left < 65536 = omega (arith, fits.some) in
     let y = column_is c.from.result o.y c.args.strip.y c.from.ensures ny high in
     let clip = same_rect _ _ _ _ _ _ _ _ (column_is c.from-2.result o.x c.args.strip.left c.from-2.ensures nx left) y (column_is c.from-3.result o.x c.args.strip.right c.from-3.ensures nx wide) y in
-    let k = inked _ _ c.args.strip c.args.a c.args.b o _ c.walk.ensures clip (to_z-of_z w32 o.x f) refl fits.shape in
+    let k = inked _ _ c.args.strip c.args.a c.args.b o _ c.walk.ensures clip (to_z-of_z w32 o.x f) refl fits in
     let reference = k.reference in
-    let picture = k.picture in
+    let canvas = k.canvas in
     search rules

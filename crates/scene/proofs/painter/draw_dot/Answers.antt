@@ -28,6 +28,6 @@ pub returns : goal.returns
 returns c =
     let fits : FitsSigned w32 c.from-x.result = search rules in
     let same : to_z w32 (of_z w32 c.from-x.result) ≡ pos c.args.dot.x = to_z-of_z w32 c.from-x.result fits ∙ c.from-x.ensures in
-    c.draw.ensures
+    c.draw.ensures.picture
     ∙ ap (λ z. operation_drawn c.args.assets.now (inputs_of c.args.window.now) c.args.op.now c.args.corner c.args.dot.y (spans z) c.args.target.now.picture) same
     ∙ row_drawn-one c.args.target.now.picture c.args.dot.x c.args.dot.y _ (λ x y. colour_of_operation c.args.assets.now (inputs_of c.args.window.now) c.args.op.now (seen_from c.args.corner (point_at (pos x) (pos y)))) c.requires.shape (λ x. refl)

@@ -67,7 +67,7 @@ loop-y-preserved c =
           (λ u. in_spans plan.spans (pos u) && is_some (colour u y)) (λ u old. unwrap_or (colour u y) 0) c.requires.shape
           (λ u u_in. ap (λ (b : Bool). b && is_some (colour u y)) (free-columns area holes plan.spans y u row (planned.1 y (le_refl y) planned.0)))
           (λ u old h. refl) c.loop-y.invariant.picture
-          (c.draw.ensures ∙ ap (λ (ss : List Span). operation_drawn a.assets.now inputs a.op.now a.origin y ss c.loop-y.target.picture) c.spans.ensures.value);
+          (c.draw.ensures.picture ∙ ap (λ (ss : List Span). operation_drawn a.assets.now inputs a.op.now a.origin y ss c.loop-y.target.picture) c.spans.ensures.value);
       plan = λ v from last. planned.1 v (omega (arith, from)) last;
     }
 
