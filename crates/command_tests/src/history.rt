@@ -1,7 +1,7 @@
 //! The history of a core's calls.
 
-use crate::session::Session;
 use calls::{Call, Entry, Refusal, Reply};
+use sessions::Session;
 use std::test::*;
 
 const HEADER: &str = "mtgui 1\nscreen 2 1\nbuffers 1\ndesktop 0000FF\n";
@@ -13,7 +13,7 @@ fn entry(call: Call) -> Entry {
 
 #[test]
 fn a_refused_call_is_in_the_history(rt: HostRuntime) -> Result<(), Fail> {
-    let mut session = Session::open(rt.alloc(), HEADER)?;
+    let mut session = Session::open(rt.alloc(), HEADER, 9).expect(&rt, "a core");
     let hide = Call::Hide { h: 2 };
     assert_eq!(rt;
         session.call(rt.alloc(), &hide),
@@ -27,7 +27,7 @@ fn a_refused_call_is_in_the_history(rt: HostRuntime) -> Result<(), Fail> {
 
 #[test]
 fn a_full_history_takes_no_call(rt: HostRuntime) -> Result<(), Fail> {
-    let mut session = Session::open_for(rt.alloc(), HEADER, 1)?;
+    let mut session = Session::open(rt.alloc(), HEADER, 1).expect(&rt, "a core");
     assert_eq!(rt; session.call(rt.alloc(), &Call::Exec), Reply::Jobs(1));
     assert_eq!(rt;
         session.call(rt.alloc(), &Call::Exec),

@@ -3,22 +3,12 @@
 #![tactic(auto)]
 
 #[cfg(test)]
-mod aside;
-#[cfg(test)]
 mod buffers;
 #[cfg(test)]
 mod commands;
 #[cfg(test)]
-mod contexts;
-#[cfg(test)]
 mod history;
 #[cfg(test)]
-mod session;
-#[cfg(test)]
-mod shapes;
-#[cfg(test)]
 mod sides;
-#[cfg(test)]
-mod values;
 #[cfg(test)]
 mod windows;

@@ -1,11 +1,11 @@
 //! A core whose display is stepped by its own side, in turns and at once.
 
-use crate::session::points_of;
 use calls::{Ask, Call, Config, Entry, Refusal, Reply};
 use flip::Controller;
 use gfx_base::Colour;
 use gui_core::Gui;
 use script::{Script, read};
+use sessions::points_of;
 use std::alloc::Global;
 use std::test::*;
 use std::thread::join;

@@ -1,9 +1,9 @@
 //! Windows that the core makes and paints.
 
-use crate::session::Session;
 use calls::{Call, Refusal, Reply};
 use scene::MOST_WINDOWS;
-use std::alloc::Global;
+use sessions::Session;
+use std::alloc::{AllocError, Global};
 use std::test::*;
 
 const HEADER: &str = "mtgui 1\nscreen 8 6\nbuffers 1\ndesktop 000001\n\
@@ -21,18 +21,21 @@ fn create(x: i16, y: i16, w: u16, h: u16, class: u8) -> Call {
 }
 
 /// Whether the shown picture is the painter's.
-fn shows_the_painter(alloc: Global, session: Session) -> Result<bool, Fail> {
+fn shows_the_painter(alloc: Global, session: Session) -> Result<bool, AllocError> {
     let shown = session.shown(alloc)?;
     Ok(shown == session.painted(alloc)?)
 }
 
+/// The most calls that are made of a session.
+const MOST_CALLS: u32 = 300;
+
 /// A core of the small screen after these calls.
-fn after_calls(alloc: Global, calls: &[Call]) -> Result<Session, Fail> {
-    let mut session = Session::open(alloc, HEADER)?;
+fn after_calls(alloc: Global, calls: &[Call]) -> Option<Session> {
+    let mut session = Session::open(alloc, HEADER, MOST_CALLS)?;
     for call in calls {
         let _ = session.call(alloc, call);
     }
-    Ok(session)
+    Some(session)
 }
 
 #[test]
@@ -94,11 +97,11 @@ fn windows_over_windows(rt: HostRuntime) -> Result<(), Fail> {
             Call::Exec,
         ];
         for done in [2, 4, 7] {
-            let session = after_calls(rt.alloc(), &calls[..done])?;
+            let session = after_calls(rt.alloc(), &calls[..done]).expect(&rt, "a core");
             let shown = shows_the_painter(rt.alloc(), session)?;
             assert!(rt; shown, "{name}: after {done} calls");
         }
-        let mut session = after_calls(rt.alloc(), &calls)?;
+        let mut session = after_calls(rt.alloc(), &calls).expect(&rt, "a core");
         let again = session.call(rt.alloc(), &Call::Exec);
         assert!(rt; again == Reply::Jobs(0), "{name}: again");
     }
@@ -111,7 +114,7 @@ fn keeps_all(
     session: &mut Session,
     call: &Call,
     refusal: Refusal,
-) -> Result<bool, Fail> {
+) -> Result<bool, AllocError> {
     let windows = session.windows();
     let shown = session.shown(alloc)?;
     let reply = session.call(alloc, call);
@@ -148,7 +151,7 @@ fn a_refused_call_changes_nothing(rt: HostRuntime) -> Result<(), Fail> {
     ];
     // The last window is invalid, so the shown picture isn't the painter's.
     let calls = [create(1, 1, 4, 3, 1), Call::Exec, create(2, 2, 4, 3, 2)];
-    let mut session = after_calls(rt.alloc(), &calls)?;
+    let mut session = after_calls(rt.alloc(), &calls).expect(&rt, "a core");
     let mut refused = 0u32;
     for (name, call, refusal) in rows {
         let kept = keeps_all(rt.alloc(), &mut session, &call, refusal)?;
@@ -199,8 +202,8 @@ fn next(at: i16, start: i16, step: i16, end: i16) -> i16 {
     }
 }
 
-fn crowded(alloc: Global, crowd: &Crowd) -> Result<Session, Fail> {
-    let mut session = Session::open(alloc, crowd.header)?;
+fn crowded(alloc: Global, crowd: &Crowd) -> Option<Session> {
+    let mut session = Session::open(alloc, crowd.header, MOST_CALLS)?;
     let (mut x, mut y) = crowd.start;
     let mut class = 1;
     for _ in 1..MOST_WINDOWS {
@@ -209,13 +212,13 @@ fn crowded(alloc: Global, crowd: &Crowd) -> Result<Session, Fail> {
         y = next(y, crowd.start.1, crowd.step.1, crowd.end.1);
         class = if class > 2 { 1 } else { class + 1 };
     }
-    Ok(session)
+    Some(session)
 }
 
 #[test]
 fn as_many_windows_as_there_can_be(rt: HostRuntime) -> Result<(), Fail> {
     for crowd in [SMALL, LARGEST] {
-        let mut session = crowded(rt.alloc(), &crowd)?;
+        let mut session = crowded(rt.alloc(), &crowd).expect(&rt, "a core");
         assert_eq!(rt; session.windows().len(), MOST_WINDOWS);
         let one_more = create(0, 0, 1, 1, 1);
         let kept = keeps_all(rt.alloc(), &mut session, &one_more, Refusal::TooManyWindows)?;

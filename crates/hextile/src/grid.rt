@@ -8,7 +8,7 @@ const TILE_SIDE: usize = 16;
 
 /// A rectangle of w by h points, cut into tiles from its upper left corner on. They are numbered
 /// from left to right and top to bottom. Its sides are at most 65,535.
-#[derive(Clone, Copy, Debug)]
+#[derive(Clone, Copy)]
 pub struct Grid {
     pub w: usize,
     pub h: usize,

@@ -6,7 +6,7 @@ use pixel_format::Format;
 
 /// The first byte that can't stand where it does, told by how many bytes are left from it on. None
 /// are left where bytes are missing.
-#[derive(Clone, Copy, Debug)]
+#[derive(Clone, Copy)]
 pub struct Fault {
     pub left: usize,
 }

@@ -1,7 +1,7 @@
 //! Looks at the picture that a script shows.
 
-use mtgui_top::plain_words;
-use outside::{MemSink, MemStore, NamedFile};
+use command_runs::written;
+use outside::MemSink;
 use std::alloc::{AllocError, Global};
 use std::str;
 
@@ -29,28 +29,11 @@ pub fn header(alloc: Global, buffers: u16) -> Result<String, AllocError> {
     Ok(script)
 }
 
-/// Room for what a command writes of a script.
-const ROOM: usize = 100_000;
-
-fn store_of(alloc: Global, script: &str) -> Result<MemStore, AllocError> {
-    let file = NamedFile {
-        name: String::from_str(alloc, "F")?,
-        bytes: Vec::from_slice(alloc, script.as_bytes())?,
-    };
-    Ok(MemStore::new(vec![in alloc; file]?, Vec::new(alloc)))
-}
-
 /// What a command writes of a script. `None` where it isn't done to its end.
-fn written(alloc: Global, verb: &str, script: &str) -> Option<MemSink> {
-    let mut store = store_of(alloc, script).ok()?;
-    let mut out = MemSink::new(alloc, ROOM, Vec::new(alloc)).ok()?;
-    let verb = String::from_str(alloc, verb).ok()?;
-    let name = String::from_str(alloc, "F").ok()?;
-    let words = vec![in alloc; verb, name].ok()?;
-    if plain_words(alloc, &words, &mut store, &mut out) == 0 {
-        Some(out)
-    } else {
-        None
+fn written_by(alloc: Global, words: &str, script: &str) -> Option<MemSink> {
+    match written(alloc, words, script)? {
+        (0, out) => Some(out),
+        _ => None,
     }
 }
 
@@ -64,8 +47,8 @@ fn shows_the_painter(alloc: Global, calls: &str, begun: u16) -> Option<bool> {
     script
         .push_str("display tick\n1 exec\ndisplay tick\n1 scan\n")
         .ok()?;
-    let played = written(alloc, "play", script.as_str())?;
-    let painted = written(alloc, "paint", script.as_str())?;
+    let played = written_by(alloc, "play F", script.as_str())?;
+    let painted = written_by(alloc, "paint F", script.as_str())?;
     let painted = str::from_utf8(painted.bytes()).ok()?;
     Some(str::from_utf8(played.bytes()).ok()?.contains(painted))
 }

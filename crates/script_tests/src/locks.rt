@@ -1,83 +1,8 @@
 //! Lines on the lock.
 
-use crate::faults::{Faulty, HEADER, first_other, is_fault_after};
+use crate::faults::{HEADER, is_fault_after};
 use script::{Reason, Script, read};
 use std::alloc::Global;
-
-/// Faults of lines on the lock.
-const IN_LOCKS: [Faulty; 9] = [
-    // No lock is open.
-    (
-        5,
-        Reason::Lock,
-        HEADER,
-        "1 unlock\n|1 unlock|16 unlock\n|2 unlock\n2 lock\n|1 unlock\nfont 9 9\n\
-        |9 unlock\n1 jump\n",
-    ),
-    // None of that task is.
-    (
-        6,
-        Reason::Lock,
-        HEADER,
-        "1 exec\n1 unlock\n|1 lock\n2 unlock\n|2 lock\n1 unlock\n|16 lock\n15 unlock|15 lock\n\
-        16 unlock\n16 lock\n|1 lock\n16 unlock\n1 unlock\n|10 lock\n1 unlock\n10 unlock\n",
-    ),
-    (
-        7,
-        Reason::Lock,
-        HEADER,
-        "1 lock\n1 unlock\n1 unlock\n|1 lock\n\n2 unlock\n1 unlock\n|2 lock\n2 exec\n1 unlock\n\
-        |1 lock\n1 lock\n2 unlock\n|# 1 lock\n# 2 lock\n1 unlock|1 lock\n1 unlock\n16 unlock\n",
-    ),
-    (
-        9,
-        Reason::Lock,
-        HEADER,
-        "1 lock\n1 lock\n1 unlock\n1 unlock\n1 unlock\n|1 lock\n2 lock\n1 unlock\n2 unlock\n\
-        1 unlock\n|1 lock\n2 lock\n2 unlock\n1 exec\n2 unlock\n1 unlock\n",
-    ),
-    // Other spellings.
-    (
-        5,
-        Reason::Call,
-        HEADER,
-        "1 lock 0\n|1 lock \n|1 unlock 1\n|1 unlock \n|0 lock\n|17 lock\n|17 unlock\n|0 unlock\n\
-        |01 lock\n|-1 unlock\n|1 Lock\n|1 Unlock\n|1 locks\n|1 unlocks\n|1 un_lock\n|lock\n\
-        |unlock\n|lock 1\n|1  lock\n| 1 lock\n|1  unlock\n|1 lock 1 unlock\n|1 pass\n",
-    ),
-    (
-        6,
-        Reason::Call,
-        HEADER,
-        "1 lock\n1 unlock 1\n|1 lock\n1 unlock \n|2 lock\n02 unlock\n|1 lock\n1 jump\n",
-    ),
-    // Bytes that no line has.
-    (
-        5,
-        Reason::Ascii,
-        HEADER,
-        "1 unlock\t\n|1 unlock\r\n|1 lock\r\n|1 lock\u{7F}\n",
-    ),
-    // Where no call lines belong.
-    (
-        4,
-        Reason::Header,
-        "mtgui 1\nscreen 8 4\nbuffers 1\n",
-        "1 lock\n|1 unlock\n",
-    ),
-    (
-        6,
-        Reason::Block,
-        HEADER,
-        "class 1 -\n1 lock\n|class 1 000000\n1 unlock\n|font 0 1\n1 unlock\n\
-        |bitmap 0 1 1\n1 lock\n",
-    ),
-];
-
-#[test]
-fn the_first_fault_of_locks(rt: HostRuntime) {
-    assert_eq!(rt; first_other(rt.alloc(), &IN_LOCKS), None);
-}
 
 /// Whether each task holds a lock and gives it back by a script of its own, the next task doesn't
 /// give it back, and the file doesn't end before.

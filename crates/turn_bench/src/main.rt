@@ -3,12 +3,10 @@
 //! how many buffers, and how often.
 #![tactic(auto)]
 
-use calls::{Call, Config, Reply};
-use gui_core::Gui;
-use script::{Script, read};
+use calls::{Call, Reply};
+use sessions::{MOST_CALLS, Session};
 use std::alloc::{AllocError, Global};
 use std::env;
-use std::marker::Model;
 use std::process::ExitCode;
 
 /// The lines of the header before and after the number of buffers. The class has a bar.
@@ -16,30 +14,14 @@ const SCREEN: &str = "mtgui 1\nscreen 320 240\n";
 
 const CLASSES: &str = "desktop 102030\nclass 1 204060\nfill 1 1 v0 h-2 F0A040\nend\n";
 
-/// The most calls that a core takes.
-const MOST: u32 = 400_000;
-
-/// The task that makes the calls.
-const TASK: u16 = 1;
-
 /// How many windows there are beside the desktop.
 const WINDOWS: u32 = 12;
 
-/// A core that is its own display, whose calls one task makes, and how many jobs it did.
+/// A screen with windows, and how many jobs painted them.
 #[derive(Drop)]
-struct Session {
-    gui: Gui,
+struct Panel {
+    session: Session,
     jobs: u32,
-}
-
-impl Model for Session {
-    ghost use Rattle.std.specs.Prelude.{IsTrue};
-
-    ghost Value = { Unit {0} };
-
-    ghost view = { λ s. tt };
-
-    ghost invariant = { λ s. IsTrue s.gui.drawer.alone };
 }
 
 fn header(alloc: Global, buffers: u8) -> Result<String, AllocError> {
@@ -49,27 +31,17 @@ fn header(alloc: Global, buffers: u8) -> Result<String, AllocError> {
     Ok(header)
 }
 
-impl Session {
-    /// A core with the desktop alone.
-    fn open(alloc: Global, buffers: u8) -> Option<Session> {
+impl Panel {
+    /// A screen with the desktop alone.
+    fn open(alloc: Global, buffers: u8) -> Option<Panel> {
         let header = header(alloc, buffers).ok()?;
-        let Script {
-            config,
-            assets,
-            lines: _,
-        } = read(alloc, header.as_bytes()).ok()?;
-        let config = Config {
-            calls: MOST,
-            ..config
-        };
-        let gui = Gui::open_alone(alloc, assets, config).ok()?;
-        Some(Session { gui, jobs: 0 })
+        let session = Session::open(alloc, &header, MOST_CALLS)?;
+        Some(Panel { session, jobs: 0 })
     }
 
     /// Makes a call, where there is room for one more.
     fn call(&mut self, alloc: Global, call: &Call) {
-        let mut taken = Vec::new(alloc);
-        if let Reply::Jobs(jobs) = self.gui.apply(alloc, TASK, call, &mut taken) {
+        if let Reply::Jobs(jobs) = self.session.call(alloc, call) {
             self.jobs = self.jobs.saturating_add(u32::from(jobs));
         }
     }
@@ -77,7 +49,7 @@ impl Session {
     /// Paints what is invalid and shows it.
     fn show(&mut self, alloc: Global) {
         self.call(alloc, &Call::Exec);
-        self.gui.tick();
+        self.session.tick();
     }
 
     /// Makes the windows side by side, of 40 by 20 points, and paints them.
@@ -135,7 +107,7 @@ impl Session {
     fn turn(&mut self, alloc: Global) {
         self.call(alloc, &Call::Begin);
         self.call(alloc, &Call::End);
-        self.gui.tick();
+        self.session.tick();
     }
 }
 
@@ -146,27 +118,27 @@ fn set_value(h: u32, value: i16) -> Call {
 /// Does what the name says so often, and tells how many jobs that took. `None` where memory runs
 /// out or it is no name.
 fn measure(alloc: Global, name: &str, buffers: u8, rounds: u32) -> Option<u32> {
-    let mut session = Session::open(alloc, buffers)?;
-    session.fill(alloc);
+    let mut panel = Panel::open(alloc, buffers)?;
+    panel.fill(alloc);
     match name {
         "mix" => {
             for round in 0..rounds {
-                session.mix(alloc, round);
+                panel.mix(alloc, round);
             }
         }
         "change" => {
             for round in 0..rounds {
-                session.change(alloc, round);
+                panel.change(alloc, round);
             }
         }
         "turn" => {
             for _ in 0..rounds {
-                session.turn(alloc);
+                panel.turn(alloc);
             }
         }
         _ => return None,
     }
-    Some(session.jobs)
+    Some(panel.jobs)
 }
 
 /// What the words ask for. `None` where they are others.

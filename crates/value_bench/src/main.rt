@@ -3,10 +3,8 @@
 //! with how many windows, and how often.
 #![tactic(auto)]
 
-use calls::{Call, Config};
-use gui_core::Gui;
-use scene::Stack;
-use script::{Script, read};
+use calls::Call;
+use sessions::{MOST_CALLS, Session};
 use std::alloc::Global;
 use std::env;
 use std::process::ExitCode;
@@ -17,70 +15,32 @@ const HEADER: &str = "mtgui 1\nscreen 1024 768\nbuffers 1\ndesktop 000000\nclass
     fill 0 0 v0 11 FF0000\non 0 add 0 a\non 0 up 0\nend\nclass 2 -\n\
     frame 0 0 w-1 h-1 FFFFFF\nhline 0 w-1 6 FFFFFF\nend\n";
 
-/// The most calls that a core takes.
-const MOST: u32 = 400_000;
-
-/// The task that makes the calls.
-const TASK: u16 = 1;
-
-/// A core whose calls one task makes.
-#[derive(Drop)]
-struct Session {
-    gui: Gui,
+/// Makes so many windows, in chains of seven that lie in one another on the desktop.
+fn fill(alloc: Global, session: &mut Session, windows: u32) {
+    for last in 1..windows {
+        let parent = if (last - 1) % 7 == 0 { 1 } else { last };
+        session.call(alloc, &create(parent, (100, 100), 1));
+    }
 }
 
-impl Session {
-    /// A core with the desktop alone.
-    fn open(alloc: Global) -> Option<Session> {
-        let Script {
-            config,
-            assets,
-            lines: _,
-        } = read(alloc, HEADER.as_bytes()).ok()?;
-        let config = Config {
-            calls: MOST,
-            ..config
-        };
-        Some(Session {
-            gui: Gui::open_alone(alloc, assets, config).ok()?,
-        })
-    }
+/// Makes a bar of 100 by 12 points and lays a window that is seen through over it.
+fn lay_bar(alloc: Global, session: &mut Session) {
+    session.call(alloc, &create(1, (100, 12), 1));
+    session.call(alloc, &create(1, (200, 40), 2));
+    session.call(alloc, &Call::Exec);
+}
 
-    /// Makes a call, where there is room for one more.
-    fn call(&mut self, alloc: Global, call: &Call) {
-        let mut taken = Vec::new(alloc);
-        let _ = self.gui.apply(alloc, TASK, call, &mut taken);
+/// Makes both calls in turn, so often together, and tells the sum of the windows' values.
+fn repeat(alloc: Global, session: &mut Session, first: &Call, second: &Call, rounds: u32) -> i32 {
+    for round in 0..rounds {
+        let call = if round % 2 == 0 { first } else { second };
+        session.call(alloc, call);
     }
-
-    /// Makes so many windows, in chains of seven that lie in one another on the desktop.
-    fn fill(&mut self, alloc: Global, windows: u32) {
-        for last in 1..windows {
-            let parent = if (last - 1) % 7 == 0 { 1 } else { last };
-            self.call(alloc, &create(parent, (100, 100), 1));
-        }
+    let mut sum = 0i32;
+    for w in session.windows().iter() {
+        sum = sum.wrapping_add(i32::from(w.values[0]));
     }
-
-    /// Makes a bar of 100 by 12 points and lays a window that is seen through over it.
-    fn lay_bar(&mut self, alloc: Global) {
-        self.call(alloc, &create(1, (100, 12), 1));
-        self.call(alloc, &create(1, (200, 40), 2));
-        self.call(alloc, &Call::Exec);
-    }
-
-    /// Makes both calls in turn, so often together, and tells the sum of the windows' values.
-    fn repeat(&mut self, alloc: Global, first: &Call, second: &Call, rounds: u32) -> i32 {
-        for round in 0..rounds {
-            let call = if round % 2 == 0 { first } else { second };
-            self.call(alloc, call);
-        }
-        let mut windows = Stack::new();
-        self.gui.windows(&mut windows);
-        let mut sum = 0i32;
-        for w in windows.iter() {
-            sum = sum.wrapping_add(i32::from(w.values[0]));
-        }
-        sum
-    }
+    sum
 }
 
 fn create(parent: u32, (w, h): (u16, u16), class: u8) -> Call {
@@ -119,20 +79,21 @@ fn deepest(windows: u32) -> u32 {
 /// Does what the name says so often, and tells the sum of the windows' values. `None` where memory
 /// runs out or it is no name.
 fn measure(alloc: Global, name: &str, windows: u32, rounds: u32) -> Option<i32> {
-    let mut session = Session::open(alloc)?;
-    session.fill(alloc, windows);
+    let mut session = Session::open(alloc, HEADER, MOST_CALLS)?;
+    fill(alloc, &mut session, windows);
     let h = deepest(windows);
-    match name {
-        "refused" => Some(session.repeat(alloc, &set_value(0, 1), &set_value(0, 2), rounds)),
-        "set_value" => Some(session.repeat(alloc, &set_value(h, 1), &set_value(h, 2), rounds)),
-        "same_value" => Some(session.repeat(alloc, &set_value(h, 1), &set_value(h, 1), rounds)),
-        "send" => Some(session.repeat(alloc, &send(h, 1), &send(h, -1), rounds)),
+    let (first, second) = match name {
+        "refused" => (set_value(0, 1), set_value(0, 2)),
+        "set_value" => (set_value(h, 1), set_value(h, 2)),
+        "same_value" => (set_value(h, 1), set_value(h, 1)),
+        "send" => (send(h, 1), send(h, -1)),
         "bar" => {
-            session.lay_bar(alloc);
-            Some(session.repeat(alloc, &send(2, 1), &Call::Exec, rounds))
+            lay_bar(alloc, &mut session);
+            (send(2, 1), Call::Exec)
         }
-        _ => None,
-    }
+        _ => return None,
+    };
+    Some(repeat(alloc, &mut session, &first, &second, rounds))
 }
 
 /// What the words ask for. `None` where they are others.

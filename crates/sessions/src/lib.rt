@@ -1,4 +1,6 @@
-//! A core with room for some calls.
+//! A core that is its own display, whose calls one task makes: what tests and timed programs make
+//! calls on. It tells of the core what the core tells, and contracts see nothing of it.
+#![tactic(auto)]
 
 use calls::{Call, Config, Entry, Reply};
 use frame::Frame;
@@ -6,12 +8,11 @@ use gfx_base::Colour;
 use gui_core::Gui;
 use scene::Stack;
 use script::{Script, read};
-use std::alloc::Global;
+use std::alloc::{AllocError, Global};
 use std::marker::Model;
-use std::test::*;
 
 /// The most calls that a session is opened for.
-const ROOM: u32 = 1_000;
+pub const MOST_CALLS: u32 = 400_000;
 
 /// The task that makes the calls.
 const TASK: u16 = 1;
@@ -33,22 +34,20 @@ impl Model for Session {
 }
 
 impl Session {
-    /// The core that the header of a script opens, for a thousand calls.
-    pub fn open(alloc: Global, header: &str) -> Result<Session, Fail> {
-        Session::open_for(alloc, header, ROOM)
-    }
-
-    /// The core that the header of a script opens, for so many calls, a thousand at most.
-    pub fn open_for(alloc: Global, header: &str, calls: u32) -> Result<Session, Fail> {
-        let calls = calls.min(ROOM);
+    /// The core that the header of a script opens, for so many calls, or 400,000 where that is
+    /// less. `None` where it is no header, or memory runs out.
+    pub fn open(alloc: Global, header: &str, calls: u32) -> Option<Session> {
         let Script {
             config,
             assets,
             lines: _,
-        } = read(alloc, header.as_bytes())?;
-        let config = Config { calls, ..config };
-        Ok(Session {
-            gui: Gui::open_alone(alloc, assets, config)?,
+        } = read(alloc, header.as_bytes()).ok()?;
+        let config = Config {
+            calls: calls.min(MOST_CALLS),
+            ..config
+        };
+        Some(Session {
+            gui: Gui::open_alone(alloc, assets, config).ok()?,
         })
     }
 
@@ -81,19 +80,19 @@ impl Session {
     }
 
     /// The points of the shown picture, row by row.
-    pub fn shown(&self, alloc: Global) -> Result<Vec<Colour>, Fail> {
+    pub fn shown(&self, alloc: Global) -> Result<Vec<Colour>, AllocError> {
         points_of(alloc, self.gui.shown())
     }
 
     /// The points of the painter's picture, row by row.
-    pub fn painted(self, alloc: Global) -> Result<Vec<Colour>, Fail> {
+    pub fn painted(self, alloc: Global) -> Result<Vec<Colour>, AllocError> {
         let Session { gui } = self;
         points_of(alloc, &gui.into_painted())
     }
 }
 
 /// The points of a picture, row by row.
-pub fn points_of(alloc: Global, picture: &Frame) -> Result<Vec<Colour>, Fail> {
+pub fn points_of(alloc: Global, picture: &Frame) -> Result<Vec<Colour>, AllocError> {
     let mut points = Vec::new(alloc);
     for y in 0..picture.height() {
         points.extend_from_slice(picture.row(y))?;
