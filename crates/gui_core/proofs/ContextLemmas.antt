@@ -13,7 +13,7 @@ use Rattle.invalidate.specs.Invalidation.{is_invalid}
 use Rattle.desk.specs.Setups.{Setup}
 use Rattle.desk.specs.Jobs.{jobs_of}
 use Rattle.desk.specs.Desks.{Desk, Step, is_context_call, refusal_of, unless_refused, after_job, after_jobs, effect, other_effect, desk_effect, context_after}
-use Rattle.gui_core.specs.States.{State, desk_of, objections_to, effect_of, step, state_after}
+use Rattle.engine.specs.States.{State, desk_of, objections_to, effect_of, step, state_after}
 use Rattle.desk.specs.Drawing.{Work, work_of}
 use Rattle.gui_core.specs.Promises.{changes_contexts, IsByAnother}
 

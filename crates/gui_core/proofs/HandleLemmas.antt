@@ -19,7 +19,7 @@ use Rattle.desk.specs.Jobs.{jobs_of}
 use Rattle.desk.specs.Devices.{DevicePicture, DevicePictures, picture_on, with_new_device, without_picture, with_picture, with_drawing}
 use Rattle.desk.specs.Drawing.{Work, Draw, Copy, Make, Discard, work_of, devices_after}
 use Rattle.desk.specs.Desks.{Desk, Step, is_context_call, refusal_of, unless_refused, after_job, after_jobs, effect, other_effect, desk_effect}
-use Rattle.gui_core.specs.States.{State, desk_of, objections_to, effect_of, step, state_after}
+use Rattle.engine.specs.States.{State, desk_of, objections_to, effect_of, step, state_after}
 
 -- the handle was given out, and finds no device
 record IsGone (ds : DevicePictures) (handle : ℕ) : Type 0 where

@@ -14,15 +14,15 @@ use Rattle.calls.specs.declared.reply.Reply.{Reply}
 use Rattle.desk.specs.Setups.{Setup}
 use Rattle.desk.specs.Desks.{Step, is_refused, is_want_of_memory}
 use Rattle.surfaces.specs.Turns.{waits as waits_for, marked, waiting_count}
-use Rattle.gui_core.specs.States.{State, opening, step, state_after}
-use Rattle.gui_core.proofs.StateLemmas.{owes-call}
+use Rattle.engine.specs.States.{State, opening, step, state_after}
+use Rattle.engine.proofs.CallerLemmas.{owes-call}
 use Rattle.std.specs.Prelude.{◌⊎◌, IsTrue}
 use Rattle.flip.specs.declared.views.Drawing.{Drawing}
 use Rattle.flip.specs.Indexes.{confirmed_by}
 use Rattle.multibuf.specs.Screens.{Screen, number_waiting, number_confirmed, after_mark, IsOfWaiting}
 use Rattle.surfaces.specs.Panes.{Panes, Finds, LooksAt}
 use Rattle.surfaces.proofs.CallerLemmas.{finds_alone}
-use Rattle.gui_core.specs.Machines.{Machine, Counts, panes_of, with_panes, with_mark}
+use Rattle.engine.specs.Machines.{Machine, Counts, panes_of, with_panes, with_mark}
 use Rattle.gui_core.specs.Histories.{Chronicle, Core, state_of, refused_in, refusals, is_call_entry, calls_in, says_full, is_entered, is_full, FitsItsActor, MarksStand, IsLegal, mark_of, with_mark_of, number_seen, Looked, Enters, RecordsCall, Answers, IsRecorded, IsCore}
 
 -- ---- entries after others

@@ -20,12 +20,11 @@ use Rattle.desk.specs.Stains.{Stain, no_stain, left_stained, stain_after_call}
 use Rattle.gui_core.specs.Stains.{stained, stain_after, draws}
 use Rattle.desk.specs.Promises.{IsRightOutside, IsPainterOutside, NoneInvalid}
 use Rattle.desk.proofs.CallerLemmas.{none_invalid, no_jobs, Holds, left_clean, points_clean, right_outside, shown_is_painter, unless_clean, opening_holds, any_effect_holds}
-use Rattle.gui_core.proofs.KeptLemmas.{jobs-step}
 use Rattle.multibuf.specs.Screens.{Screen, latest, number_of_switch}
 use Rattle.surfaces.specs.Turns.{after_turn, IsScreen}
-use Rattle.gui_core.specs.States.{State, desk_of, opening, buffer_objections, objections_to, screen_after, effect_of, step, state_after}
+use Rattle.engine.specs.States.{State, desk_of, opening, buffer_objections, objections_to, screen_after, effect_of, step, state_after}
 use Rattle.gui_core.specs.Promises.{IsQuiet}
-use Rattle.gui_core.proofs.StateLemmas.{is_turn_call, goes, stays_begun, stays_ended, stays_marked, none_held, screen-step, screen-opening}
+use Rattle.engine.proofs.CallerLemmas.{jobs-step, is_turn_call, goes, stays_begun, stays_ended, stays_marked, none_held, screen-step, screen-opening}
 
 -- ---- each step keeps what holds
 

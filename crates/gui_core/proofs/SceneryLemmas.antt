@@ -24,8 +24,8 @@ use Rattle.invalidate.specs.Invalidation.{is_invalid}
 use Rattle.desk.specs.Changes.{list_after}
 use Rattle.desk.specs.Jobs.{jobs_of}
 use Rattle.desk.specs.Desks.{Desk, Step, Objection, opening_desk, is_context_call, objections, refusal_of, unless_refused, changed, created, after_create, after_job, after_jobs, painted, rect_with, effect, other_effect, desk_effect, desk_step, is_drawing}
-use Rattle.gui_core.specs.States.{State, desk_of, opening, objections_to, effect_of, step, state_after}
-use Rattle.gui_core.proofs.StateLemmas.{is_turn_call, plain_step}
+use Rattle.engine.specs.States.{State, desk_of, opening, objections_to, effect_of, step, state_after}
+use Rattle.engine.proofs.CallerLemmas.{is_turn_call, plain_step}
 use Rattle.desk.specs.Devices.{DevicePictures}
 use Rattle.desk.specs.Drawing.{Work, Draw, Copy, Make, Discard, work_of, reply_to}
 use Rattle.desk.specs.Windows.{with_memdev}

@@ -20,8 +20,7 @@ use Rattle.desk.specs.Devices.{DevicePicture}
 use Rattle.desk.specs.Drawing.{Work, Draw, Copy, Make, Discard, work_of}
 use Rattle.desk.specs.Desks.{Desk, Step, Objection, is_context_call, objections, context_objections, no_ground, work_objections, other_objections, desk_objections, refusal_of, unless_refused, is_drawing, is_want_of_memory}
 use Rattle.surfaces.specs.Turns.{none_free}
-use Rattle.gui_core.specs.States.{State, desk_of, buffer_objections, objections_to, effect_of, step_of_call, step}
-use Rattle.gui_core.specs.Machines.{Machine, Counts, IsUnmade}
+use Rattle.engine.specs.States.{State, desk_of, buffer_objections, objections_to, effect_of, step_of_call, step}
 use Rattle.gui_core.specs.Histories.{Core, state_of, with_mark_of, RecordsCall, says_full, is_entered}
 use Rattle.gui_core.proofs.SceneryLemmas.{nothing_refuses}
 
@@ -127,10 +126,6 @@ step_is_entered setup s actor call = by_refusal (refusal_of (objections_to setup
     by_refusal None is = unrefused_is_entered (effect_of setup s actor call).reply (nothing_refuses setup s actor call)
     by_refusal (Some r) is = refusal_is_other (objections_to setup s actor call) r (all_are_other setup s actor call) is
 
-pub counted_is_entered : (old new : Machine) (actor : ℕ) (call : Call) (reply : Reply) → Counts old actor call new reply → is_entered reply ≡ true
-unfolding step
-counted_is_entered old new actor call reply counts = ap (λ (step : Step State). is_entered step.reply) counts.step ∙ step_is_entered old.setup old.state actor call
-
 pub records_are_entered : (old : Core) (actor : ℕ) (call : Call) (new : Core) (reply : Reply) → RecordsCall old actor call new reply → is_entered reply ≡ true
 unfolding step
 records_are_entered old actor call new reply is = ap is_entered is.enters.reply_is ∙ step_is_entered old.chronicle.setup (state_of (with_mark_of is.mark old.chronicle)) actor call
@@ -143,17 +138,3 @@ entered_parts reply is = both (says_full reply) (is_want_of_memory reply) is
     both false false is = (refl, refl)
     both false true is = absurd cc
     both true b is = absurd cc
-
-less_one : (n : ℕ) → n + 1 - 1 ≡ n
-less_one n = omega arith
-
--- a call that isn't made isn't counted
-pub unmade_by : (old counted taken new : Machine) (actor : ℕ) (call : Call) → counted ≡ record old { made = old.made + 1 } → IsUnmade counted actor call taken → new ≡ record taken { made = taken.made - 1 } → IsUnmade old actor call new
-unmade_by old counted taken new actor call once unmade back = record {
-  unchanged =
-      back
-      ∙ ap (λ (m : Machine). record m { made = m.made - 1 }) (unmade.unchanged ∙ once)
-      ∙ ap (λ (n : ℕ). record old { made = n }) (less_one old.made);
-  makes = unmade.makes;
-  free = ap (λ (m : Machine). refusal_of (objections_to m.setup m.state actor call)) (sym once) ∙ unmade.free;
-}

@@ -20,8 +20,8 @@ use Rattle.calls.specs.declared.reply.Reply.TheVariants.{Refused}
 use Rattle.calls.specs.declared.reply.Refusal.TheVariants.{Full}
 use Rattle.desk.specs.Setups.{Setup, setup_for}
 use Rattle.desk.specs.Desks.{refusal_of, is_refused, is_want_of_memory}
-use Rattle.gui_core.specs.States.{State, opening, step, state_after, objections_to}
-use Rattle.gui_core.specs.Machines.{Machine, makes_device}
+use Rattle.engine.specs.States.{State, opening, step, state_after, objections_to}
+use Rattle.engine.specs.Machines.{Machine, makes_device}
 use Rattle.surfaces.specs.Turns.{waiting_count, none_free}
 use Rattle.calls.specs.declared.ask.Ask.{Ask}
 use Rattle.calls.specs.declared.ask.Ask.TheVariants.{Free, Still}

@@ -6,7 +6,7 @@ use Rattle.calls.specs.declared.entry.Entry.{Entry}
 use Rattle.calls.specs.declared.entry.Entry.TheVariants as entry
 use Rattle.multibuf.specs.Screens.{number_waiting}
 use Rattle.desk.specs.Desks.{is_context_call}
-use Rattle.gui_core.specs.States.{State}
+use Rattle.engine.specs.States.{State}
 use Rattle.desk.specs.Promises.{NoneInvalid}
 
 -- no window is invalid, no begin is open, and no switch waits

@@ -7,7 +7,7 @@ use Rattle.calls.specs.declared.entry.Entry.TheVariants as entry
 use Rattle.desk.specs.Setups.{Setup}
 use Rattle.desk.specs.Drawing.{work_of, may_ink}
 use Rattle.desk.specs.Desks.{refusal_of}
-use Rattle.gui_core.specs.States.{State, desk_of, objections_to, step}
+use Rattle.engine.specs.States.{State, desk_of, objections_to, step}
 use Rattle.desk.specs.Stains.{Stain, stain_after_call}
 
 -- the stain after an entry; a refused call and a mark leave it

@@ -7,11 +7,11 @@ ghost use Rattle.calls.specs.Actors.{fits};
 ghost use Rattle.desk.specs.Setups.{painter};
 ghost use Rattle.desk.specs.Desks.{is_want_of_memory};
 ghost use Rattle.surfaces.specs.Turns.{waiting_count};
-ghost use Rattle.gui_core.specs.Machines.{IsConfig};
+ghost use Rattle.engine.specs.Machines.{IsConfig};
 ghost use Rattle.gui_core.specs.Histories.{mark_of};
 
-use crate::engine::Engine;
 use calls::{Ask, Call, Config, Entry, Refusal, Reply};
+use engine::Engine;
 use flip::Controller;
 use frame::Frame;
 use gfx_base::Memory;

@@ -12,7 +12,7 @@ ghost use Rattle.desk.specs.Devices.{picture_on};
 ghost use Rattle.desk.specs.Setups.{Setup, looks_of, painter};
 ghost use Rattle.multibuf.specs.Screens.{latest};
 ghost use Rattle.desk.specs.Desks.{is_refused};
-ghost use Rattle.gui_core.specs.States.{State, desk_of, opening, step, state_after};
+ghost use Rattle.engine.specs.States.{State, desk_of, opening, step, state_after};
 ghost use Rattle.desk.specs.Stains.{Stain, no_stain};
 ghost use Rattle.gui_core.specs.Stains.{stained, stain_after, draws};
 ghost use Rattle.desk.specs.Promises.{IsRightOutside, IsPainterOutside, NoneInvalid};

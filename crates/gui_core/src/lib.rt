@@ -3,7 +3,6 @@
 //! takes memory.
 #![tactic(auto)]
 
-mod engine;
 mod gui;
 pub mod laws;
 

@@ -9,7 +9,7 @@ use Rattle.calls.specs.declared.line.Line.TheVariants.{Task, Tick}
 use Rattle.calls.specs.Lines.{call_count, FitsItsTask}
 use Rattle.script.specs.Scripts.{Script, IsReady}
 use Rattle.desk.specs.Setups.{Setup}
-use Rattle.gui_core.specs.States.{State, opening}
+use Rattle.engine.specs.States.{State, opening}
 use Rattle.gui_core.specs.Histories.{calls_in, mark_of, FitsItsActor, MarksStand, IsLegal}
 use Rattle.gui_core.proofs.CallerLemmas.{calls-append, stand-append}
 use Rattle.mtgui_top.specs.Histories.{calls_at}

@@ -24,7 +24,7 @@ use Rattle.journal.specs.Texts.{frame_text, reply_text, tick_text, summary_text}
 use Rattle.desk.specs.Setups.{Setup, setup_for, painter}
 use Rattle.multibuf.specs.Screens.{number_waiting}
 use Rattle.desk.specs.Desks.{is_want_of_memory}
-use Rattle.gui_core.specs.States.{State, opening, step, state_after}
+use Rattle.engine.specs.States.{State, opening, step, state_after}
 use Rattle.gui_core.proofs.CallerLemmas.{painting_moves_nothing, state-append, refusals-append, calls-append, enters-state, entered}
 use Rattle.gui_core.specs.Promises.{changes_windows, window_calls}
 use Rattle.gui_core.specs.Histories.{Chronicle, unwritten, state_of, refusals, refused_of, calls_in, marks_in, mark_of, ticked, is_full, says_full, is_entered, Enters}

@@ -7,7 +7,7 @@ use Rattle.calls.specs.declared.line.Line.TheVariants.{Task}
 use Rattle.script.specs.Scripts.{Script}
 use Rattle.journal.specs.Texts.{frame_text}
 use Rattle.desk.specs.Setups.{Setup}
-use Rattle.gui_core.specs.States.{State, opening, step}
+use Rattle.engine.specs.States.{State, opening, step}
 use Rattle.gui_core.proofs.CallerLemmas.{quiet_is_painter, quiet_undrawn}
 use Rattle.mtgui_top.specs.Playing.{setup_of, played, state_past, answer_text, replies, summary_of, after_lines, play_text}
 use Rattle.mtgui_top.specs.Promises.{state_at, ScansShowPainter}

@@ -5,7 +5,7 @@ use Rattle.calls.specs.declared.line.Act.TheVariants as act
 use Rattle.calls.specs.declared.line.Line.{Line}
 use Rattle.calls.specs.declared.line.Line.TheVariants.{Task, Tick}
 use Rattle.gui_core.specs.Promises.{changes_windows}
-use Rattle.gui_core.specs.Machines.{makes_device}
+use Rattle.engine.specs.Machines.{makes_device}
 
 abbrev pub may_change : Line → Bool
 may_change (Task task (act.Call call)) = changes_windows (entry.Call task call)

@@ -11,7 +11,7 @@ use Rattle.script.specs.Scripts.{Script, IsScript, IsNoScript}
 use Rattle.script.specs.Faults.{IsFault}
 use Rattle.calls.specs.declared.line.Line.{Line}
 use Rattle.desk.specs.Setups.{Setup}
-use Rattle.gui_core.specs.States.{State}
+use Rattle.engine.specs.States.{State}
 use Rattle.gui_core.specs.Histories.{Chronicle, state_of}
 use Rattle.mtgui_top.specs.declared.command.Verb.{Verb}
 use Rattle.mtgui_top.specs.declared.command.Verb.TheVariants.{Play, Paint}

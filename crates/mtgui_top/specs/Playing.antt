@@ -14,7 +14,7 @@ use Rattle.journal.specs.Texts.{frame_text, reply_text, tick_text, summary_text,
 use Rattle.desk.specs.Setups.{Setup, setup_for, painter}
 use Rattle.multibuf.specs.Screens.{number_waiting}
 use Rattle.desk.specs.Desks.{is_refused}
-use Rattle.gui_core.specs.States.{State, opening, step, state_after}
+use Rattle.engine.specs.States.{State, opening, step, state_after}
 use Rattle.gui_core.specs.Histories.{Chronicle, mark_of, marks_in}
 use Rattle.mtgui_top.specs.declared.command.Verb.{Verb}
 use Rattle.mtgui_top.specs.declared.command.Verb.TheVariants.{Play, Paint}

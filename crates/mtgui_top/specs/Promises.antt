@@ -8,7 +8,7 @@ use Rattle.calls.specs.declared.line.Line.TheVariants.{Task}
 use Rattle.script.specs.Scripts.{Script}
 use Rattle.journal.specs.Texts.{frame_text}
 use Rattle.desk.specs.Setups.{painter}
-use Rattle.gui_core.specs.States.{State, opening}
+use Rattle.engine.specs.States.{State, opening}
 use Rattle.desk.specs.Stains.{Stain, no_stain}
 use Rattle.gui_core.specs.Stains.{stain_after, draws}
 use Rattle.desk.specs.Promises.{IsPainterOutside}

@@ -11,7 +11,7 @@ ghost use Rattle.calls.specs.declared.line.Act.TheVariants as Act;
 ghost use Rattle.calls.specs.declared.line.Line.TheVariants.{Task, Tick};
 ghost use Rattle.script.specs.Scripts.{Script, IsScript, IsReady};
 ghost use Rattle.desk.specs.Desks.{is_want_of_memory};
-ghost use Rattle.gui_core.specs.States.{state_after};
+ghost use Rattle.engine.specs.States.{state_after};
 ghost use Rattle.gui_core.specs.Promises.{window_calls, is_window_call};
 ghost use Rattle.mtgui_top.specs.Changes.{may_change, asks_for_device};
 ghost use Rattle.gui_core.specs.Histories.{state_of, marks_in, IsLegal};

@@ -6,7 +6,7 @@ ghost use Rattle.multibuf.specs.Screens.{number_waiting};
 ghost use Rattle.calls.specs.Actors.{fits};
 ghost use Rattle.desk.specs.Setups.{painter};
 ghost use Rattle.desk.specs.Desks.{is_want_of_memory};
-ghost use Rattle.gui_core.specs.Machines.{IsConfig};
+ghost use Rattle.engine.specs.Machines.{IsConfig};
 ghost use Rattle.gui_core.specs.Histories.{unwritten, state_of, refused_of, is_full, says_full, is_entered, IsLegal, Enters, MayMakeDevice, ticked};
 
 use calls::{Call, Config, Entry, Reply};

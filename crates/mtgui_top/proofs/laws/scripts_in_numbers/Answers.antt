@@ -7,7 +7,7 @@ use Rattle.frame.specs.Pictures.{changed_points}
 use Rattle.scene.specs.Stacks.{has_ancestors}
 use Rattle.scene.specs.Families.{on_top_of}
 use Rattle.journal.specs.Texts.{run_text, points_line, frame_text}
-use Rattle.gui_core.specs.States.{step}
+use Rattle.engine.specs.States.{step}
 use Rattle.mtgui_top.specs.Playing.{summary_of}
 use Rattle.mtgui_top.proofs.laws.scripts_in_numbers.Goals as goal
 

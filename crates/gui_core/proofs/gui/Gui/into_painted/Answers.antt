@@ -1,6 +1,6 @@
 use Rattle.std.proofs.Common.{ap, ◌∙◌}
 use Rattle.desk.specs.Setups.{painter}
-use Rattle.gui_core.specs.States.{State}
+use Rattle.engine.specs.States.{State}
 use Rattle.gui_core.specs.Histories.{Core, state_of}
 use Rattle.gui_core.proofs.gui.Gui.into_painted.Goals as goal
 

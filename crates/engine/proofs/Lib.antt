@@ -1,0 +1,4 @@
+mod StateLemmas
+mod KeptLemmas
+mod CallLemmas
+pub mod CallerLemmas
