@@ -3,8 +3,8 @@
 //!
 //! A line `> WORDS: TITLE` begins a case: a command's words, and what the case shows. The lines
 //! after it are those of the script that the file `F` has. A line `+ TEXT` is a case of its own, in
-//! which the script of the lines so far ends with that text; `\n` in it ends a line, and `\xHH` is a
-//! byte below 128. A script with such lines isn't a case without them.
+//! which the script of the lines so far ends with that text; `\n` in it ends a line, and `\xHH` is
+//! a byte below 128. A script with such lines isn't a case without them.
 #![tactic(auto)]
 
 mod cases;

@@ -3,12 +3,12 @@
 #![tactic(auto)]
 
 #[cfg(test)]
-mod buffers;
-#[cfg(test)]
 mod commands;
 #[cfg(test)]
 mod history;
 #[cfg(test)]
 mod sides;
+#[cfg(test)]
+mod told;
 #[cfg(test)]
 mod windows;

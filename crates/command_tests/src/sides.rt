@@ -1,5 +1,6 @@
 //! A core whose display is stepped by its own side, in turns and at once.
 
+use crate::told::told;
 use calls::{Ask, Call, Config, Entry, Refusal, Reply};
 use flip::Controller;
 use gfx_base::Colour;
@@ -7,6 +8,7 @@ use gui_core::Gui;
 use script::{Script, read};
 use sessions::points_of;
 use std::alloc::Global;
+use std::marker::Model;
 use std::test::*;
 use std::thread::join;
 
@@ -16,88 +18,132 @@ const TASK: u16 = 1;
 /// How often each side steps where both step at once.
 const ROUNDS: u32 = 5_000;
 
-/// A core that the header of a script opens, for so many calls that each round may make two, and
-/// its display's side.
-fn open(alloc: Global, header: &str) -> Result<(Gui, Controller), Fail> {
-    let Script {
-        config,
-        assets,
-        lines: _,
-    } = read(alloc, header.as_bytes())?;
-    let config = Config {
-        calls: 2 * ROUNDS,
-        ..config
-    };
-    Ok(Gui::open(alloc, assets, config)?)
+/// A core whose calls one task makes. Contracts see nothing of it, so that many calls in a row are
+/// as cheap to prove as one.
+#[derive(Drop)]
+struct Sided {
+    gui: Gui,
 }
 
-fn call(alloc: Global, gui: &mut Gui, call: &Call) -> Reply {
-    let mut taken = Vec::new(alloc);
-    gui.apply(alloc, TASK, call, &mut taken)
+impl Model for Sided {
+    ghost Value = { Unit {0} };
+
+    ghost view = { λ s. tt };
 }
 
-/// The colour of the first point that is shown.
-fn shown_value(alloc: Global, gui: &Gui) -> Result<Option<u32>, Fail> {
-    let points = points_of(alloc, gui.shown())?;
-    Ok(points.first().map(Colour::value))
+impl Sided {
+    /// The core that the header of a script opens, for so many calls that each round may make two,
+    /// and its display's side.
+    fn open(alloc: Global, header: &str) -> Result<(Sided, Controller), Fail> {
+        let Script {
+            config,
+            assets,
+            lines: _,
+        } = read(alloc, header.as_bytes())?;
+        let config = Config {
+            calls: 2 * ROUNDS,
+            ..config
+        };
+        let (gui, controller) = Gui::open(alloc, assets, config)?;
+        Ok((Sided { gui }, controller))
+    }
+
+    fn call(&mut self, alloc: Global, call: &Call) -> Reply {
+        let mut taken = Vec::new(alloc);
+        self.gui.apply(alloc, TASK, call, &mut taken)
+    }
+
+    fn look(&mut self) {
+        self.gui.look();
+    }
+
+    fn ask(&mut self, ask: Ask) -> bool {
+        self.gui.ask(ask)
+    }
+
+    fn history(&self) -> &[Entry] {
+        self.gui.history()
+    }
+
+    /// Whether the first point that is shown has this colour.
+    fn shows(&self, alloc: Global, value: u32) -> bool {
+        match points_of(alloc, self.gui.shown()) {
+            Ok(points) => points.first().map(Colour::value) == Some(value),
+            Err(_) => false,
+        }
+    }
 }
 
-/// The entry of a call of the task.
-fn entry(call: Call) -> Entry {
-    Entry::Call { actor: TASK, call }
+/// Whether a buffer is free and no switch waits.
+fn is_idle(core: &mut Sided) -> bool {
+    core.ask(Ask::Free) && core.ask(Ask::Still)
+}
+
+/// Whether neither is so.
+fn is_waiting(core: &mut Sided) -> bool {
+    !core.ask(Ask::Free) && !core.ask(Ask::Still)
+}
+
+/// Whether the desktop is painted and isn't shown, since its switch waits, which a begin is refused
+/// for.
+fn waits(alloc: Global, core: &mut Sided) -> bool {
+    matches!(core.call(alloc, &Call::Exec), Reply::Jobs(1))
+        && is_waiting(core)
+        && core.shows(alloc, 0)
+        && matches!(
+            core.call(alloc, &Call::Begin),
+            Reply::Refused(Refusal::Waiting(1))
+        )
+}
+
+/// Whether the switch that was made is known by a look, and not before.
+fn is_known_by_a_look(alloc: Global, core: &mut Sided) -> bool {
+    let unknown = core.history().len() == 2;
+    core.look();
+    core.look();
+    unknown && core.shows(alloc, 0xFF) && is_idle(core)
+}
+
+/// Whether a begin and its end are done.
+fn turns(alloc: Global, core: &mut Sided) -> bool {
+    matches!(core.call(alloc, &Call::Begin), Reply::Done)
+        && matches!(core.call(alloc, &Call::End), Reply::Done)
+}
+
+/// Whether each step of both sides is as told, in turns.
+fn steps_in_turns(alloc: Global, core: &mut Sided, controller: &mut Controller) -> bool {
+    is_idle(core)
+        && controller.tick().is_none()
+        && waits(alloc, core)
+        && controller.tick().is_some()
+        && is_known_by_a_look(alloc, core)
+        && turns(alloc, core)
+        && controller.tick().is_some()
 }
 
 #[test]
 fn a_switch_is_known_once_it_is_looked_for(rt: HostRuntime) -> Result<(), Fail> {
     let header = "mtgui 1\nscreen 1 1\nbuffers 2\ndesktop 0000FF\n";
-    let (mut gui, mut controller) = open(rt.alloc(), header)?;
-    assert!(rt; gui.ask(Ask::Free) && gui.ask(Ask::Still));
-    assert_eq!(rt; controller.tick(), None);
-
-    assert_eq!(rt; call(rt.alloc(), &mut gui, &Call::Exec), Reply::Jobs(1));
-    assert!(rt; !gui.ask(Ask::Free) && !gui.ask(Ask::Still));
-    assert_eq!(rt; shown_value(rt.alloc(), &gui)?, Some(0));
-    assert_eq!(rt;
-        call(rt.alloc(), &mut gui, &Call::Begin),
-        Reply::Refused(Refusal::Waiting(1))
-    );
-
-    assert!(rt; controller.tick().is_some());
-    assert_eq!(rt; gui.history().len(), 2);
-    gui.look();
-    gui.look();
-    assert_eq!(rt; shown_value(rt.alloc(), &gui)?, Some(0xFF));
-    assert!(rt; gui.ask(Ask::Free) && gui.ask(Ask::Still));
-
+    let (mut core, mut controller) = Sided::open(rt.alloc(), header)?;
+    assert!(rt; steps_in_turns(rt.alloc(), &mut core, &mut controller));
     // A call looks first, and so what it finds stands before it.
-    assert_eq!(rt; call(rt.alloc(), &mut gui, &Call::Begin), Reply::Done);
-    assert_eq!(rt; call(rt.alloc(), &mut gui, &Call::End), Reply::Done);
-    assert!(rt; controller.tick().is_some());
-    assert_eq!(rt; call(rt.alloc(), &mut gui, &Call::Scan), Reply::Done);
-    let entries = [
-        entry(Call::Exec),
-        entry(Call::Begin),
-        Entry::Shown { switch: 1 },
-        entry(Call::Begin),
-        entry(Call::End),
-        Entry::Shown { switch: 2 },
-        entry(Call::Scan),
-    ];
-    assert!(rt; gui.history() == entries.as_slice());
+    core.call(rt.alloc(), &Call::Scan);
+    assert_eq!(rt;
+        told(rt.alloc(), core.history())?.as_str(),
+        "1 exec\n1 begin\nshown 1\n1 begin\n1 end\nshown 2\n1 scan\n"
+    );
     Ok(())
 }
 
 /// Begins and ends as often as there are rounds, and tells how often it was let.
-fn draw(alloc: Global, gui: &mut Gui) -> u32 {
+fn draw(alloc: Global, core: &mut Sided) -> u32 {
     let mut done = 0u32;
     for _ in 0..ROUNDS {
-        if call(alloc, gui, &Call::Begin) == Reply::Done
-            && call(alloc, gui, &Call::End) == Reply::Done
-        {
+        if turns(alloc, core) {
             done = done.wrapping_add(1);
         }
     }
-    gui.look();
+    core.look();
     done
 }
 
@@ -130,23 +176,23 @@ fn marks_in(history: &[Entry]) -> (u32, u32) {
 #[test]
 fn each_switch_is_marked_once_while_both_sides_step(rt: HostRuntime) -> Result<(), Fail> {
     let header = "mtgui 1\nscreen 1 1\nbuffers 3\ndesktop 0000FF\n";
-    let (mut gui, mut controller) = open(rt.alloc(), header)?;
+    let (mut core, mut controller) = Sided::open(rt.alloc(), header)?;
     let alloc = rt.alloc();
-    let ((shown, mut controller), (mut gui, done)) = join(
+    let ((shown, mut controller), (mut core, done)) = join(
         &rt,
         move || {
             let shown = show(&mut controller);
             (shown, controller)
         },
         move || {
-            let done = draw(alloc, &mut gui);
-            (gui, done)
+            let done = draw(alloc, &mut core);
+            (core, done)
         },
     );
     assert_eq!(rt; done, ROUNDS);
     let more = u32::from(controller.tick().is_some());
-    gui.look();
-    let (count, disordered) = marks_in(gui.history());
+    core.look();
+    let (count, disordered) = marks_in(core.history());
     assert_eq!(rt; count, shown.wrapping_add(more));
     assert_eq!(rt; disordered, 0);
     Ok(())
